@@ -2,10 +2,10 @@
 use Rattle.std.proofs.Common.{◌≡◌, ◌∙◌, ◌+◌, ℕ, nat_lt, Bool, List, Option, Some, None, sym, ap, subst}
 use Rattle.std.proofs.lemmas.Option.{same_Some}
 use Rattle.art_attempt.proofs.Finds.{finding_allowed}
-use Rattle.art_attempt.proofs.Given.{ask_looks, if_some, look_once, look_row, made_row, making_asks_made, plain_row, supply_asks_supply, supply_once, supply_plain, vouch_asks_look}
+use Rattle.art_attempt.proofs.Given.{ask_looks, if_some, look_once, look_row, made_row, apply_asks_made, plain_row, supply_asks_supply, supply_once, supply_plain, vouch_asks_look}
 use Rattle.art_attempt.specs.Asking.{Answers, given}
 use Rattle.art_attempt.specs.Inserting.{Fits, StageFits, asks, asks_at, deed_at}
-use Rattle.art_attempt.specs.Rooms.{wants_of}
+use Rattle.art_attempt.specs.Rooms.{demand_of}
 use Rattle.art_attempt.specs.declared.inserting.Inserting.{Inserting}
 use Rattle.art_attempt.specs.declared.inserting.Stage.{Stage}
 use Rattle.art_attempt.specs.declared.inserting.Stage.TheVariants as stage
@@ -18,11 +18,11 @@ use Rattle.art_epoch.specs.declared.taking.Search.TheVariants.{Looking, Clearing
 use Rattle.art_epoch.specs.declared.taking.Taking.{Taking}
 use Rattle.art_frame.specs.declared.stocks.Stock.{Stock}
 use Rattle.art_gather.proofs.Supplies.{one_written}
-use Rattle.art_gather.specs.Supplying as supplying
-use Rattle.art_gather.specs.Supplying.{Fits as SupplyFits}
-use Rattle.art_gather.specs.declared.supplying.Supplying.{Supplying}
-use Rattle.art_gather.specs.declared.supplying.Supplying.TheVariants as at
-use Rattle.art_gather.specs.declared.supplying.Wants.{Wants}
+use Rattle.art_gather.specs.Reserve as reserve
+use Rattle.art_gather.specs.Reserve.{Fits as SupplyFits}
+use Rattle.art_gather.specs.declared.reserve.Reserve.{Reserve}
+use Rattle.art_gather.specs.declared.reserve.Reserve.TheVariants as at
+use Rattle.art_gather.specs.declared.reserve.Demand.{Demand}
 use Rattle.art_machine.proofs.Counting.{look_counts, steps_made, taking_counts}
 use Rattle.art_machine.specs.Acting as acting
 use Rattle.art_machine.specs.Acting.{IsLook, steps_in}
@@ -31,8 +31,8 @@ use Rattle.art_machine.specs.declared.actions.Action.TheVariants.{ClearBit, Comm
 use Rattle.art_machine.specs.declared.actions.Answer.{Answer}
 use Rattle.art_machine.specs.declared.actions.Answer.TheVariants.{Begun, Word, Checked, Upgraded, Done}
 use Rattle.art_make.proofs.Told.{allowed}
-use Rattle.art_make.specs.Making as making
-use Rattle.art_make.specs.declared.making.Making.{Making}
+use Rattle.art_make.specs.Apply as apply
+use Rattle.art_make.specs.declared.apply.Apply.{Apply}
 use Rattle.art_plan.specs.Insert.Puts.{inserted}
 use Rattle.art_plan.specs.declared.changes.Change.{Change as ChangeOf}
 use Rattle.art_step.specs.declared.deeds.Deed.{Deed}
@@ -61,36 +61,36 @@ module _ (z : Sizes) (v w : View) where
           subst (λ (b : Action). acting.Answers z None b r v w → w.steps ≡ v.steps + 1) (same_Some clear a e) (clear_one t.pool (taking.around t.words t.first n) (Some k) r) row
       by_search (Took n k) e = absurd (cc)
 
-  supplying_one : (wants : Wants) (k : List ℕ) (value : ℕ) (s : Stock) (u : View) (m : Supplying) (a : Action) (r : Answer) → SupplyFits z wants k value m s u v
-      → supplying.asks k value s m ≡ Some a → acting.Answers z None a r v w → w.steps ≡ v.steps + 1
-  supplying_one wants k value s u (at.Leaf t) a r f is row = taking_one t a r is row
-  supplying_one wants k value s u (at.Packing p) a r f is row = one_written z wants k value s u p v w f a r is row
-  supplying_one wants k value s u (at.Node t) a r f is row = taking_one t a r is row
-  supplying_one wants k value s u (at.Ended o) a r f is row = absurd (cc)
+  reserve_one : (demand : Demand) (k : List ℕ) (value : ℕ) (s : Stock) (u : View) (m : Reserve) (a : Action) (r : Answer) → SupplyFits z demand k value m s u v
+      → reserve.asks k value s m ≡ Some a → acting.Answers z None a r v w → w.steps ≡ v.steps + 1
+  reserve_one demand k value s u (at.Leaf t) a r f is row = taking_one t a r is row
+  reserve_one demand k value s u (at.LeafWriter p) a r f is row = one_written z demand k value s u p v w f a r is row
+  reserve_one demand k value s u (at.Node t) a r f is row = taking_one t a r is row
+  reserve_one demand k value s u (at.Ended o) a r f is row = absurd (cc)
 
   module _ (d : Deed) (c : ChangeOf) (a : Action) (r : Answer) (row : Answers z d c a r v w) where
     pub look_made : IsLook a → w.steps ≡ v.steps + steps_in r
     look_made is = (look_counts z d a r v w is (look_row z d c a r v w is row)).steps ∙ sym (ap (λ (n : ℕ). v.steps + n) (look_once z (given d c a) a r v w is row))
 
-    pub supply_made : (wants : Wants) (k : List ℕ) (value : ℕ) (s : Stock) (u : View) (m : Supplying) → SupplyFits z wants k value m s u v → supplying.asks k value s m ≡ Some a
+    pub supply_made : (demand : Demand) (k : List ℕ) (value : ℕ) (s : Stock) (u : View) (m : Reserve) → SupplyFits z demand k value m s u v → reserve.asks k value s m ≡ Some a
         → w.steps ≡ v.steps + steps_in r
-    supply_made wants k value s u m f is =
+    supply_made demand k value s u m f is =
         let supply = supply_asks_supply k value s m a is in
-        supplying_one wants k value s u m a r f is (plain_row z d c a r v w (supply_plain a supply) row)
+        reserve_one demand k value s u m a r f is (plain_row z d c a r v w (supply_plain a supply) row)
         ∙ sym (ap (λ (n : ℕ). v.steps + n) (supply_once z (given d c a) a r v w supply row))
 
-    pub change_made : (u : View) (m : Making) → making.Fits z c m u v → making.asks c m ≡ Some a → w.steps ≡ v.steps + steps_in r
-    change_made u m f is = steps_made z (making.brings c) a r v w (allowed z u v c m a f is) (made_row z d c a r v w (making_asks_made c m a is) row)
+    pub change_made : (u : View) (m : Apply) → apply.Fits z c m u v → apply.asks c m ≡ Some a → w.steps ≡ v.steps + steps_in r
+    change_made u m f is = steps_made z (apply.brings c) a r v w (allowed z u v c m a f is) (made_row z d c a r v w (apply_asks_made c m a is) row)
 
 -- ---- of an attempt
 
 module _ (z : Sizes) (u : View) (m : Inserting) (r : Room) (v w : View) (a : Action) (answer : Answer) (row : Answers z (deed_at m r) r.change a answer v w) where
   made_at : (s : Stage) → StageFits z u s m r v → asks_at s m r ≡ Some a → w.steps ≡ v.steps + steps_in answer
   made_at stage.Finding fits is = look_made z v w (deed_at m r) r.change a answer row (ask_looks z (deed_at m r) v a (finding_allowed z u m r v fits a is))
-  made_at stage.Supplying fits is =
-      supply_made z v w (deed_at m r) r.change a answer row (wants_of z m.stand.verdict) r.row.key.items r.row.value r.stock fits.0.early m.supplying fits.0.fits is
-  made_at stage.Vouching fits is = look_made z v w (deed_at m r) r.change a answer row (vouch_asks_look m.stand m.vouching a is)
-  made_at stage.Making fits is = change_made z v w (deed_at m r) r.change a answer row fits.0.early m.making fits.0.fits is
+  made_at stage.Reserve fits is =
+      supply_made z v w (deed_at m r) r.change a answer row (demand_of z m.position.verdict) r.row.key.items r.row.value r.stock fits.0.early m.reserve fits.0.fits is
+  made_at stage.Vouching fits is = look_made z v w (deed_at m r) r.change a answer row (vouch_asks_look m.position m.vouching a is)
+  made_at stage.Apply fits is = change_made z v w (deed_at m r) r.change a answer row fits.0.early m.apply fits.0.fits is
   made_at (stage.Ended e) fits is = absurd (cc)
 
   pub attempt_steps : Fits z u m r v → asks m r ≡ Some a → w.steps ≡ v.steps + steps_in answer
@@ -101,9 +101,9 @@ module _ (z : Sizes) (u : View) (m : Inserting) (r : Room) (v w : View) (a : Act
 module _ (z : Sizes) (u : View) (m : Inserting) (r : Room) (v : View) (c : Cell) (b : Bool) where
   deed_made : (s : Stage) → StageFits z u s m r v → asks_at s m r ≡ Some (Commit c b) → r.change.effects.deed ≡ inserted r.row
   deed_made stage.Finding fits is = absurd (ask_looks z (deed_at m r) v (Commit c b) (finding_allowed z u m r v fits (Commit c b) is))
-  deed_made stage.Supplying fits is = absurd (supply_asks_supply r.row.key.items r.row.value r.stock m.supplying (Commit c b) is)
-  deed_made stage.Vouching fits is = absurd (vouch_asks_look m.stand m.vouching (Commit c b) is)
-  deed_made stage.Making fits is = fits.0.deed
+  deed_made stage.Reserve fits is = absurd (supply_asks_supply r.row.key.items r.row.value r.stock m.reserve (Commit c b) is)
+  deed_made stage.Vouching fits is = absurd (vouch_asks_look m.position m.vouching (Commit c b) is)
+  deed_made stage.Apply fits is = fits.0.deed
   deed_made (stage.Ended e) fits is = cc
 
   pub makes_insert : Fits z u m r v → asks m r ≡ Some (Commit c b) → r.change.effects.deed ≡ inserted r.row

@@ -4,10 +4,11 @@ use Rattle.std.specs.Prelude.{Ok, Err, Result, ⊤}
 use Rattle.std.specs.Option.{option_map, unwrap_or}
 use Rattle.std.proofs.lemmas.Bool.{cases_Bool}
 use Rattle.std.proofs.lemmas.Option.{same_Some}
+use Rattle.art_attempt.proofs.LastCheck.{check_stays, stood_stays}
 use Rattle.art_attempt.proofs.Spent.{few_looks}
 use Rattle.art_attempt.proofs.Tries.{checked_since, event_since, limbo_committed, rest_committed, standing_takes, still_fails, still_later, still_reads, still_takes, stock_fails, stock_reads}
 use Rattle.art_attempt.specs.Inserting.{EndFits, EndsSo, HasEntered, HasMade, HasSupplies, HasVouched, IsFull, given_up}
-use Rattle.art_attempt.specs.Rooms.{both_of, number_for, spent_by, wants_of}
+use Rattle.art_attempt.specs.Rooms.{both_of, number_for, spent_by, demand_of}
 use Rattle.art_attempt.specs.Trying.{HasChecked, HasSpent, IsKey, IsLater}
 use Rattle.art_attempt.specs.declared.inserting.Inserting.{Inserting}
 use Rattle.art_attempt.specs.declared.rooms.Room.{Room}
@@ -27,14 +28,14 @@ use Rattle.art_machine.specs.declared.actions.Answer.{Answer}
 use Rattle.art_frame.proofs.Stocked.{linked_are_in, stock_commits}
 use Rattle.art_frame.specs.Stocks.{IsIn, words_written}
 use Rattle.art_gather.proofs.Vouches.{was_vouched}
-use Rattle.art_gather.specs.Supplying as supplying
-use Rattle.art_gather.specs.Supplying.{HasAll, HasNone}
+use Rattle.art_gather.specs.Reserve as reserve
+use Rattle.art_gather.specs.Reserve.{HasAll, HasNone}
 use Rattle.art_gather.specs.Vouching as vouching
 use Rattle.art_gather.specs.Vouching.{CheckedSince, IsVouched, IsVouching, written_above}
-use Rattle.art_gather.specs.declared.supplying.Supplied.{Supplied}
-use Rattle.art_gather.specs.declared.supplying.Supplied.TheVariants.{Ready, Full}
-use Rattle.art_gather.specs.declared.supplying.Supplying.{Supplying}
-use Rattle.art_gather.specs.declared.supplying.Supplying.TheVariants as supplies
+use Rattle.art_gather.specs.declared.reserve.Reserved.{Reserved}
+use Rattle.art_gather.specs.declared.reserve.Reserved.TheVariants.{Ready, Full}
+use Rattle.art_gather.specs.declared.reserve.Reserve.{Reserve}
+use Rattle.art_gather.specs.declared.reserve.Reserve.TheVariants as supplies
 use Rattle.art_gather.specs.declared.vouching.Vouched.{Vouched}
 use Rattle.art_gather.specs.declared.vouching.Vouched.TheVariants.{Unchanged, Changed}
 use Rattle.art_gather.specs.declared.vouching.Vouching.{Vouching}
@@ -43,13 +44,13 @@ use Rattle.art_plan.specs.Insert.Cases.{IsInHand}
 use Rattle.art_plan.specs.Insert.Puts.{inserted}
 use Rattle.art_make.proofs.PackedLeaves.{packed_leaf}
 use Rattle.art_make.proofs.Told.{ends_as}
-use Rattle.art_make.specs.Making as making
-use Rattle.art_make.specs.Making.{HasFailed, IsOver}
-use Rattle.art_make.specs.Packing.{IsPacked}
+use Rattle.art_make.specs.Apply as apply
+use Rattle.art_make.specs.Apply.{HasFailed, IsOver}
+use Rattle.art_make.specs.LeafWriter.{IsPacked}
 use Rattle.art_find.specs.Findings.{IsStanding}
-use Rattle.art_find.specs.declared.desks.Desk.{Desk}
+use Rattle.art_find.specs.declared.read_sets.ReadSet.{ReadSet}
 use Rattle.art_find.specs.declared.findings.Above.{Above}
-use Rattle.art_find.specs.declared.findings.Stand.{Stand}
+use Rattle.art_find.specs.declared.findings.Position.{Position}
 use Rattle.art_plan.specs.Changes.{node_made}
 use Rattle.art_plan.specs.Whole.{twin_node}
 use Rattle.art_plan.specs.declared.changes.Twin.{Twin}
@@ -57,21 +58,22 @@ use Rattle.art_step.specs.Events.{MakesEvent}
 use Rattle.art_step.specs.declared.deeds.Deed.{Deed}
 use Rattle.art_step.specs.declared.faults.UpgradeFault.{UpgradeFault}
 use Rattle.art_step.specs.declared.faults.UpgradeFault.TheVariants as fault
+use Rattle.art_step.specs.declared.views.LastCheck.{LastCheck}
 use Rattle.art_step.specs.declared.views.Sizes.{Sizes}
 use Rattle.art_step.specs.declared.views.Stamp.{Stamp}
 use Rattle.art_step.specs.declared.views.View.{View}
 
 -- ---- numbers
 
-pub supplied_at : (m : Supplying) (e : Supplied) → supplying.ended_at m ≡ Some e → m ≡ supplies.Ended e
-supplied_at (supplies.Ended r) e is = ap supplies.Ended (same_Some {A = Supplied} r e is)
-supplied_at (supplies.Leaf t) e is = cc
-supplied_at (supplies.Packing t) e is = cc
-supplied_at (supplies.Node t) e is = cc
+pub reserved_at : (m : Reserve) (e : Reserved) → reserve.ended_at m ≡ Some e → m ≡ supplies.Ended e
+reserved_at (supplies.Ended r) e is = ap supplies.Ended (same_Some {A = Reserved} r e is)
+reserved_at (supplies.Leaf t) e is = cc
+reserved_at (supplies.LeafWriter t) e is = cc
+reserved_at (supplies.Node t) e is = cc
 
 module _ (z : Sizes) (u : View) (m : Inserting) (r : Room) (v : View) (h : HasSupplies z u m r v) where
-  abbrev Stage : Supplying → Type 0
-  Stage s = supplying.StageFits z (wants_of z m.stand.verdict) r.row.key.items r.row.value s r.stock h.early v
+  abbrev Stage : Reserve → Type 0
+  Stage s = reserve.StageFits z (demand_of z m.position.verdict) r.row.key.items r.row.value s r.stock h.early v
 
   supplies_later : IsLater h.early v
   supplies_later = record { steps = h.fits.only.later; failures = h.fits.only.failures }
@@ -81,7 +83,7 @@ module _ (z : Sizes) (u : View) (m : Inserting) (r : Room) (v : View) (h : HasSu
   supplies_spent limited =
       let spent = h.spent limited in
       let counted = h.fits.counted in
-      let few = few_looks z (wants_of z m.stand.verdict) limited in
+      let few = few_looks z (demand_of z m.position.verdict) limited in
       omega (arith, spent, counted, few)
 
   pub supplies_so : EndsSo z u r v
@@ -91,26 +93,31 @@ module _ (z : Sizes) (u : View) (m : Inserting) (r : Room) (v : View) (h : HasSu
     has = h.fits.only.has;
   }
 
-  pub supplies_full : (pool : Pool) → supplying.ended_at m.supplying ≡ Some (Full pool) → IsFull z u m.stand r pool v
+  pub supplies_full : (pool : Pool) → reserve.ended_at m.reserve ≡ Some (Full pool) → IsFull z u m.position r pool v
   supplies_full pool is =
-      let none : HasNone z (wants_of z m.stand.verdict) pool h.early v = subst Stage (supplied_at m.supplying (Full pool) is) h.fits.stage in
+      let none : HasNone z (demand_of z m.position.verdict) pool h.early v = subst Stage (reserved_at m.reserve (Full pool) is) h.fits.stage in
+      let same = ap (λ (t : View). t.checked) h.fits.only.only in
+      let step = ap (λ (c : LastCheck). c.step) same in
+      let done = h.place.stood.done in
+      let began = h.base.later.steps in
+      let since = none.after in
       record {
-        early = h.early;
-        base = h.base;
-        later = supplies_later;
-        place = h.place;
-        none = none;
+        stood = stood_stays h.early v same z u u r.row.key.items m.position r.read_set (omega arith) h.fits.only.later h.place.stood;
+        checked = check_stays h.early v same m.position.stamp h.fits.only.found h.place.checked;
+        comes = h.place.comes;
+        none = record { wanted = none.wanted; since = none.since; after = omega (arith, began, since); none = none.none };
+        after = omega (arith, step, done, since);
       }
 
-  pub supplies_all : supplying.ended_at m.supplying ≡ Some Ready → HasAll (wants_of z m.stand.verdict) r.stock
-  supplies_all is = subst Stage (supplied_at m.supplying Ready is) h.fits.stage
+  pub supplies_all : reserve.ended_at m.reserve ≡ Some Ready → HasAll (demand_of z m.position.verdict) r.stock
+  supplies_all is = subst Stage (reserved_at m.reserve Ready is) h.fits.stage
 
   -- the cells are vouched for from now on
-  pub vouching_begins : IsVouching z r.row.key.items m.stand r.desk v v
+  pub vouching_begins : IsVouching z r.row.key.items m.position r.read_set v v
   vouching_begins = record {
     reads = record { only = refl; free = supplies_so.still.free; pinned = supplies_so.still.pinned };
     later = omega arith;
-    standing = standing_takes z r.row.key.items m.stand r.desk h.early v h.fits.only.only h.place.standing;
+    standing = standing_takes z r.row.key.items m.position r.read_set h.early v h.fits.only.only h.place.standing;
   }
 
 -- ---- the cells
@@ -122,22 +129,22 @@ vouched_as (vouches.Here r) e is = cc
 vouched_as vouches.CheckAbove e is = cc
 vouched_as vouches.CheckHere e is = cc
 
-seen_by : (z : Sizes) (k : List ℕ) (t : Stand) (desk : Desk) (u v : View) → IsVouched z k (both_of t.verdict) t desk u v → IsSeen z k t desk
-seen_by z k t desk u v p = record {
-  vouched = was_vouched z k t desk u t.stamp v p.here;
+seen_by : (z : Sizes) (k : List ℕ) (t : Position) (read_set : ReadSet) (u v : View) → IsVouched z k (both_of t.verdict) t read_set u v → IsSeen z k t read_set
+seen_by z k t read_set u v p = record {
+  vouched = was_vouched z k t read_set u t.stamp v p.here;
   whole = p.whole;
-  above = λ a at both. let is = ap (λ (b : Bool). written_above b t) both ∙ at in (was_vouched z k t desk u a.stamp v (p.above a is), p.all a is);
+  above = λ a at both. let is = ap (λ (b : Bool). written_above b t) both ∙ at in (was_vouched z k t read_set u a.stamp v (p.above a is), p.all a is);
 }
 
 -- each cell that an insert locks there was checked
-locked_checked : (z : Sizes) (k : List ℕ) (t : Stand) (desk : Desk) (u v : View) → IsVouched z k (both_of t.verdict) t desk u v → (x : Stamp) → IsLockedAt t x → CheckedSince z k t desk u x v
-locked_checked z k t desk u v p x = ⊎_elim
-    (λ (is : x ≡ t.stamp). subst (λ (y : Stamp). CheckedSince z k t desk u y v) (sym is) p.here)
+locked_checked : (z : Sizes) (k : List ℕ) (t : Position) (read_set : ReadSet) (u v : View) → IsVouched z k (both_of t.verdict) t read_set u v → (x : Stamp) → IsLockedAt t x → CheckedSince z k t read_set u x v
+locked_checked z k t read_set u v p x = ⊎_elim
+    (λ (is : x ≡ t.stamp). subst (λ (y : Stamp). CheckedSince z k t read_set u y v) (sym is) p.here)
     (λ (q : (a : Above) × (t.above ≡ Some a) × ((needs_of t.verdict).above ≡ true) × (x ≡ a.stamp)).
-    subst (λ (y : Stamp). CheckedSince z k t desk u y v) (sym q.3) (p.above q.0 (ap (λ (b : Bool). written_above b t) q.2 ∙ q.1)))
+    subst (λ (y : Stamp). CheckedSince z k t read_set u y v) (sym q.3) (p.above q.0 (ap (λ (b : Bool). written_above b t) q.2 ∙ q.1)))
 
 -- a vouching that has not ended met no failure
-going_failures : (t : Stand) (m : Vouching) (a : Action) (n : ℕ) → vouching.asks t m ≡ Some a → vouching.failures_of m n ≡ n
+going_failures : (t : Position) (m : Vouching) (a : Action) (n : ℕ) → vouching.asks t m ≡ Some a → vouching.failures_of m n ≡ n
 going_failures t (vouches.Above q) a n is = refl
 going_failures t (vouches.Here q) a n is = refl
 going_failures t vouches.CheckAbove a n is = refl
@@ -145,9 +152,9 @@ going_failures t vouches.CheckHere a n is = refl
 going_failures t (vouches.Ended r) a n is = cc
 
 -- so where it ends as changed, it is the answer that does not go on
-pub changed_by : (z : Sizes) (k : List ℕ) (both : Bool) (t : Stand) (m m' : Vouching) (desk desk' : Desk) (d : Deed) (a : Action) (r : Answer) (u v w : View) → vouching.Fits z k both t m desk u v
-    → vouching.Fits z k both t m' desk' u w → vouching.asks t m ≡ Some a → Answers z (telling d) a r v w → vouching.ended_at m' ≡ Some Changed → goes_on r ≡ false
-changed_by z k both t m m' desk desk' d a r u v w before after is row ended = ⊎_elim
+pub changed_by : (z : Sizes) (k : List ℕ) (both : Bool) (t : Position) (m m' : Vouching) (read_set read_set' : ReadSet) (d : Deed) (a : Action) (r : Answer) (u v w : View) → vouching.Fits z k both t m read_set u v
+    → vouching.Fits z k both t m' read_set' u w → vouching.asks t m ≡ Some a → Answers z (telling d) a r v w → vouching.ended_at m' ≡ Some Changed → goes_on r ≡ false
+changed_by z k both t m m' read_set read_set' d a r u v w before after is row ended = ⊎_elim
     (λ (on : goes_on r ≡ true).
     let step : Counted v w true = subst (Counted v w) on (look_counts z d a r v w (vouch_asks_look t m a is) row) in
     let same = step.failures in
@@ -159,7 +166,7 @@ changed_by z k both t m m' desk desk' d a r u v w before after is row ended = �
 
 module _ (z : Sizes) (u : View) (m : Inserting) (r : Room) (v : View) (h : HasVouched z u m r v) where
   abbrev StageOf : Vouching → Type 0
-  StageOf s = vouching.StageFits z r.row.key.items (both_of m.stand.verdict) m.stand s r.desk h.early v
+  StageOf s = vouching.StageFits z r.row.key.items (both_of m.position.verdict) m.position s r.read_set h.early v
 
   vouched_reads : (e : Vouched) → vouching.ended_at m.vouching ≡ Some e → StageOf (vouches.Ended e)
   vouched_reads e is = subst StageOf (vouched_as m.vouching e is) h.fits.stage
@@ -188,15 +195,15 @@ module _ (z : Sizes) (u : View) (m : Inserting) (r : Room) (v : View) (h : HasVo
     pub vouched_so : EndsSo z u r v
     vouched_so = vouched_ends (vouched_reads Unchanged is).0.reads
 
-    pub vouched_seen : IsSeen z r.row.key.items m.stand r.desk
-    vouched_seen = seen_by z r.row.key.items m.stand r.desk h.early v (vouched_reads Unchanged is).1
+    pub vouched_seen : IsSeen z r.row.key.items m.position r.read_set
+    vouched_seen = seen_by z r.row.key.items m.position r.read_set h.early v (vouched_reads Unchanged is).1
 
-    pub vouched_each : (x : Stamp) → IsLockedAt m.stand x → HasChecked z u r.row.key.items m.stand r.desk x v
+    pub vouched_each : (x : Stamp) → IsLockedAt m.position x → HasChecked z u r.row.key.items m.position r.read_set x v
     vouched_each x at =
-        checked_since u h.early h.base z r.row.key.items m.stand r.desk x v
-        (locked_checked z r.row.key.items m.stand r.desk h.early v (vouched_reads Unchanged is).1 x at)
+        checked_since u h.early h.base z r.row.key.items m.position r.read_set x v
+        (locked_checked z r.row.key.items m.position r.read_set h.early v (vouched_reads Unchanged is).1 x at)
 
-    pub vouched_standing : IsStanding z r.row.key.items m.stand r.desk v
+    pub vouched_standing : IsStanding z r.row.key.items m.position r.read_set v
     vouched_standing = (vouched_reads Unchanged is).0.standing
 
     -- the leaf is in hand, with its words
@@ -208,24 +215,24 @@ module _ (z : Sizes) (u : View) (m : Inserting) (r : Room) (v : View) (h : HasVo
         packed_leaf z v l r.row.key.items r.row.value key.bytes key.short packed
 
     -- and the node that is needed
-    pub node_ready : HasNeeded z v m.stand.verdict (number_for r.stock (needs_of m.stand.verdict).node)
+    pub node_ready : HasNeeded z v m.position.verdict (number_for r.stock (needs_of m.position.verdict).node)
     node_ready layout wanted =
         let there = h.all.node layout wanted in
-        let number : number_for r.stock (needs_of m.stand.verdict).node ≡ there.0 =
+        let number : number_for r.stock (needs_of m.position.verdict).node ≡ there.0 =
         ap (number_for r.stock) wanted ∙ ap (λ (o : Option ℕ). unwrap_or o 0) there.1 in
         subst (λ (i : ℕ). HasNode z v (record { layout = layout; number = i })) (sym number) (vouched_so.has.nodes (record { layout = layout; number = there.0 }) there.1)
 
 -- ---- the change
 
 module _ (z : Sizes) (u : View) (m : Inserting) (r : Room) (v : View) (h : HasMade z u m r v) where
-  module _ (made : Result ⊤ UpgradeFault) (is : making.ended_at m.making ≡ Some made) where
+  module _ (made : Result ⊤ UpgradeFault) (is : apply.ended_at m.apply ≡ Some made) where
     over : IsOver h.early r.change made v
-    over = (ends_as z h.early v r.change m.making made h.fits is).0
+    over = (ends_as z h.early v r.change m.apply made h.fits is).0
 
     made_spent : HasSpent z u 22900 v
     made_spent limited =
         let spent = h.spent limited in
-        let steps = (ends_as z h.early v r.change m.making made h.fits is).1 in
+        let steps = (ends_as z h.early v r.change m.apply made h.fits is).1 in
         let more = h.later.failures in
         omega (arith, spent, steps, more)
 
@@ -248,7 +255,7 @@ module _ (z : Sizes) (u : View) (m : Inserting) (r : Room) (v : View) (h : HasMa
         }
 
     -- it was given up
-    pub change_given_up : (e : UpgradeFault) → made ≡ Err e → EndFits z u m.stand r (given_up e) v
+    pub change_given_up : (e : UpgradeFault) → made ≡ Err e → EndFits z u m.position r (given_up e) v
     change_given_up e err = by_fault e (over.failed e err)
       where
         so : (f : UpgradeFault) → HasFailed h.early r.change f v → EndsSo z u r v
@@ -258,7 +265,7 @@ module _ (z : Sizes) (u : View) (m : Inserting) (r : Room) (v : View) (h : HasMa
           has = stock_fails z r.row.key.items r.row.value h.early v r.stock r.change f failed h.has;
         }
 
-        by_fault : (f : UpgradeFault) → HasFailed h.early r.change f v → EndFits z u m.stand r (given_up f) v
+        by_fault : (f : UpgradeFault) → HasFailed h.early r.change f v → EndFits z u m.position r (given_up f) v
         by_fault (fault.Changed c) failed =
             let more = failed.fails.3 in
             let before = h.base.later.failures in

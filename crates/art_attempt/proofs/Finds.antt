@@ -4,11 +4,12 @@ use Rattle.std.specs.Prelude.{IfSome, Ok, Err, ⊤}
 use Rattle.std.specs.Option.{option_map, unwrap_or}
 use Rattle.std.proofs.lemmas.Option.{same_Some}
 use Rattle.art_attempt.proofs.Steps.{cell_fails}
-use Rattle.art_attempt.proofs.Tries.{checked_since, event_since, later_then, rest_told, still_later, still_reads, stock_reads}
+use Rattle.art_attempt.proofs.LastCheck.{check_is, stood_then}
+use Rattle.art_attempt.proofs.Tries.{event_since, later_then, rest_told, still_later, still_reads, stock_reads}
 use Rattle.art_attempt.proofs.Given.{check_look}
 use Rattle.art_attempt.specs.Asking.{MayAsk}
 use Rattle.art_attempt.specs.Inserting.{EndFits, EndsSo, IsFinding, IsPresent, asks_place, check_by, check_of, deed_at, entered_by, finding_asks, present, present_of, value_found}
-use Rattle.art_attempt.specs.Trying.{HasChecked, HasSpent, IsLater}
+use Rattle.art_attempt.specs.Trying.{HasSpent, IsCheckOf, IsLater, StoodAtCheck}
 use Rattle.art_attempt.specs.declared.inserting.Entered.{Entered}
 use Rattle.art_attempt.specs.declared.inserting.Entered.TheVariants.{Present, Overlaps as overlaps}
 use Rattle.art_attempt.specs.declared.inserting.Inserting.{Inserting}
@@ -26,7 +27,7 @@ use Rattle.art_find.specs.declared.descents.Descent.{Descent}
 use Rattle.art_find.specs.declared.descents.Stage.{Stage}
 use Rattle.art_find.specs.declared.descents.Stage.TheVariants.{Start, Anchor, Child, Below, Both, Header, Prefix, Keys, Slot, Value, Length, Bytes, Decided, Ended}
 use Rattle.art_find.specs.declared.verdicts.Verdict.{Verdict}
-use Rattle.art_find.specs.declared.verdicts.Verdict.TheVariants.{Found, Empty, OtherLeaf, OtherPrefix, Free, Overlaps, Torn, Absent}
+use Rattle.art_find.specs.declared.verdicts.Verdict.TheVariants.{Found, Empty, LeafMismatch, PrefixMismatch, NoChild, Overlaps, Torn, Absent}
 use Rattle.art_frame.proofs.Stocked.{stock_same}
 use Rattle.art_machine.proofs.AnswerKinds.{answers_plain, finds_word}
 use Rattle.art_machine.specs.Acting.{Answers, IsPlain, goes_on, passed, telling}
@@ -39,10 +40,10 @@ use Rattle.art_machine.specs.declared.actions.Answer.TheVariants.{Begun, Word, C
 use Rattle.art_make.proofs.Told.{map_some}
 use Rattle.art_find.proofs.FoundPlaces.{standing_grows}
 use Rattle.art_find.proofs.Keeping.{passed_grows}
-use Rattle.art_find.specs.Findings.{FindingFits, IsPlaced, IsStanding, PlaceFits, stand_at, stand_of}
-use Rattle.art_find.specs.declared.desks.Desk.{Desk}
+use Rattle.art_find.specs.Findings.{FindingFits, IsPlaced, IsStanding, PlaceFits, position_at, position_of}
+use Rattle.art_find.specs.declared.read_sets.ReadSet.{ReadSet}
 use Rattle.art_find.specs.declared.findings.Finding.{Finding}
-use Rattle.art_find.specs.declared.findings.Stand.{Stand}
+use Rattle.art_find.specs.declared.findings.Position.{Position}
 use Rattle.art_step.proofs.Shows.{failed_rest, insert_settles, passed_rest, told_rest}
 use Rattle.art_step.specs.Shows.{HasValue, OnlyReads, Rest, Shows}
 use Rattle.art_step.specs.Steps.Check as check
@@ -55,15 +56,15 @@ use Rattle.art_tree.specs.Heaps.{Cells}
 
 -- ---- what is asked
 
-pub no_place : (m : Finding) (o : Option Action) (a : Action) → stand_at m ≡ None → asks_place (stand_at m) o ≡ Some a → o ≡ Some a
-no_place m o a nowhere is = sym (ap (λ (t : Option Stand). asks_place t o) nowhere) ∙ is
+pub no_place : (m : Finding) (o : Option Action) (a : Action) → position_at m ≡ None → asks_place (position_at m) o ≡ Some a → o ≡ Some a
+no_place m o a nowhere is = sym (ap (λ (t : Option Position). asks_place t o) nowhere) ∙ is
 
 map_none : {A B : Type 0} (f : A → B) (o : Option A) → option_map f o ≡ None → o ≡ None
 map_none f (Some x) is = cc
 map_none f None is = refl
 
-pub undecided : (m : Finding) → stand_at m ≡ None → decided_at m.descent.stage ≡ None
-undecided m is = map_none (stand_of m) (decided_at m.descent.stage) is
+pub undecided : (m : Finding) → position_at m ≡ None → decided_at m.descent.stage ≡ None
+undecided m is = map_none (position_of m) (decided_at m.descent.stage) is
 
 -- only where a place is settled does an answer speak of a deed
 pub place_plain : (s : Stage) → decided_at s ≡ None → (a : Action) → asks s ≡ Some a → IsPlain a
@@ -140,20 +141,20 @@ checked_going (Decided x found) none is = cc
 checked_going (Ended o) none is = is
 
 stands_some : (s : Stage) → WantsWord (asks s) → (x : Stamp) × (stands_on s ≡ Some x)
-stands_some Start wants = absurd wants
-stands_some (Anchor x) wants = (x, refl)
-stands_some (Child x d) wants = (x, refl)
-stands_some (Below x n) wants = (x, refl)
-stands_some (Both x y n) wants = (x, refl)
-stands_some (Header x n) wants = (x, refl)
-stands_some (Prefix seen i r) wants = (seen.stamp, refl)
-stands_some (Keys seen i) wants = (seen.stamp, refl)
-stands_some (Slot seen place) wants = (seen.stamp, refl)
-stands_some (Value x l) wants = (x, refl)
-stands_some (Length x l value) wants = (x, refl)
-stands_some (Bytes seen i r) wants = (seen.stamp, refl)
-stands_some (Decided x found) wants = (x, refl)
-stands_some (Ended o) wants = absurd wants
+stands_some Start demand = absurd demand
+stands_some (Anchor x) demand = (x, refl)
+stands_some (Child x d) demand = (x, refl)
+stands_some (Below x n) demand = (x, refl)
+stands_some (Both x y n) demand = (x, refl)
+stands_some (Header x n) demand = (x, refl)
+stands_some (Prefix seen i r) demand = (seen.stamp, refl)
+stands_some (Keys seen i) demand = (seen.stamp, refl)
+stands_some (Slot seen place) demand = (seen.stamp, refl)
+stands_some (Value x l) demand = (x, refl)
+stands_some (Length x l value) demand = (x, refl)
+stands_some (Bytes seen i r) demand = (seen.stamp, refl)
+stands_some (Decided x found) demand = (x, refl)
+stands_some (Ended o) demand = absurd demand
 
 standing_going : (s : Stage) (x : Stamp) → stands_on s ≡ Some x → ended_at s ≡ None
 standing_going Start x is = refl
@@ -202,27 +203,27 @@ decided_stage (Length x l value) p is = cc
 decided_stage (Bytes seen i r) p is = cc
 decided_stage (Ended o) p is = cc
 
-pub record StandsThere (z : Sizes) (k : List ℕ) (m : Finding) (desk : Desk) (early v : View) (t : Stand) : Type 0 where
+pub record StandsThere (z : Sizes) (k : List ℕ) (m : Finding) (read_set : ReadSet) (early v : View) (t : Position) : Type 0 where
   pub reads : IsReading early v
-  pub standing : IsStanding z k t desk v
+  pub standing : IsStanding z k t read_set v
   pub exact : t.verdict ≢ Absent
   pub settles : asks m.descent.stage ≡ Some (Settle t.stamp)
   pub answers : answer_at m.descent.stage ≡ value_of t.verdict
 
-module _ (z : Sizes) (k : List ℕ) (what : Option ℕ → Deed) (m : Finding) (desk : Desk) (early v : View) (fits : FindingFits z k what m desk early v) (exact : IsExact m.descent.stage) where
-  pub stands_there : (t : Stand) → stand_at m ≡ Some t → StandsThere z k m desk early v t
+module _ (z : Sizes) (k : List ℕ) (what : Option ℕ → Deed) (m : Finding) (read_set : ReadSet) (early v : View) (fits : FindingFits z k what m read_set early v) (exact : IsExact m.descent.stage) where
+  pub stands_there : (t : Position) → position_at m ≡ Some t → StandsThere z k m read_set early v t
   stands_there t is =
-      let p = map_some (stand_of m) (decided_at m.descent.stage) t is in
+      let p = map_some (position_of m) (decided_at m.descent.stage) t is in
       let at = decided_stage m.descent.stage p.0 p.1 in
       let f : StageFits z k what m.descent.depth (Decided p.0.0 p.0.1) early v = subst (λ (s : Stage). StageFits z k what m.descent.depth s early v) at fits.descent in
-      let place : IsPlaced z k m.above desk v p.0.0 = subst (λ (s : Stage). PlaceFits z k m.above desk v (stands_on s)) at fits.place in
-      let standing : IsStanding z k (stand_of m p.0) desk v = record { stamp = f.2; deep = f.1; says = f.3; place = place } in
+      let place : IsPlaced z k m.above read_set v p.0.0 = subst (λ (s : Stage). PlaceFits z k m.above read_set v (stands_on s)) at fits.place in
+      let standing : IsStanding z k (position_of m p.0) read_set v = record { stamp = f.2; deep = f.1; says = f.3; place = place } in
       record {
         reads = f.0;
-        standing = subst (λ (s : Stand). IsStanding z k s desk v) p.2 standing;
-        exact = subst (λ (s : Stand). s.verdict ≢ Absent) p.2 (subst IsExact at exact);
-        settles = ap asks at ∙ ap (λ (s : Stand). Some (Settle s.stamp)) p.2;
-        answers = ap answer_at at ∙ ap (λ (s : Stand). value_of s.verdict) p.2;
+        standing = subst (λ (s : Position). IsStanding z k s read_set v) p.2 standing;
+        exact = subst (λ (s : Position). s.verdict ≢ Absent) p.2 (subst IsExact at exact);
+        settles = ap asks at ∙ ap (λ (s : Position). Some (Settle s.stamp)) p.2;
+        answers = ap answer_at at ∙ ap (λ (s : Position). value_of s.verdict) p.2;
       }
 
 -- ---- the place is checked
@@ -248,13 +249,13 @@ check_passed z d x Done v w row is = absurd row
 check_passed z d x (Checked (Ok done)) v w row is = row
 check_passed z d x (Checked (Err e)) v w row is = cc
 
-pub place_passed : (z : Sizes) (d : Deed) (found : Verdict) (t : Stand) (r : Answer) (v w : View) → Answers z (telling d) (check_by found t) r v w → passed r ≡ true
+pub place_passed : (z : Sizes) (d : Deed) (found : Verdict) (t : Position) (r : Answer) (v w : View) → Answers z (telling d) (check_by found t) r v w → passed r ≡ true
     → check.Unchanged z v w t.stamp (told_by found d)
 place_passed z d (Found l value) t r v w row is = settle_passed z d t.stamp r v w row is
 place_passed z d Empty t r v w row is = check_passed z d t.stamp r v w row is
-place_passed z d (OtherLeaf l at byte) t r v w row is = check_passed z d t.stamp r v w row is
-place_passed z d (OtherPrefix n header at) t r v w row is = check_passed z d t.stamp r v w row is
-place_passed z d (Free n header) t r v w row is = check_passed z d t.stamp r v w row is
+place_passed z d (LeafMismatch l at byte) t r v w row is = check_passed z d t.stamp r v w row is
+place_passed z d (PrefixMismatch n header at) t r v w row is = check_passed z d t.stamp r v w row is
+place_passed z d (NoChild n header) t r v w row is = check_passed z d t.stamp r v w row is
 place_passed z d Overlaps t r v w row is = check_passed z d t.stamp r v w row is
 place_passed z d Torn t r v w row is = check_passed z d t.stamp r v w row is
 place_passed z d Absent t r v w row is = check_passed z d t.stamp r v w row is
@@ -275,12 +276,12 @@ check_failed z d x Done v w row is = absurd row
 check_failed z d x (Checked (Ok done)) v w row is = cc
 check_failed z d x (Checked (Err e)) v w row is = failed_rest v w x e.found row.3
 
-pub place_failed : (z : Sizes) (d : Deed) (found : Verdict) (t : Stand) (r : Answer) (v w : View) → Answers z (telling d) (check_by found t) r v w → passed r ≡ false → OnlyReads v w
+pub place_failed : (z : Sizes) (d : Deed) (found : Verdict) (t : Position) (r : Answer) (v w : View) → Answers z (telling d) (check_by found t) r v w → passed r ≡ false → OnlyReads v w
 place_failed z d (Found l value) t r v w row is = settle_failed z d t.stamp r v w row is
 place_failed z d Empty t r v w row is = check_failed z d t.stamp r v w row is
-place_failed z d (OtherLeaf l at byte) t r v w row is = check_failed z d t.stamp r v w row is
-place_failed z d (OtherPrefix n header at) t r v w row is = check_failed z d t.stamp r v w row is
-place_failed z d (Free n header) t r v w row is = check_failed z d t.stamp r v w row is
+place_failed z d (LeafMismatch l at byte) t r v w row is = check_failed z d t.stamp r v w row is
+place_failed z d (PrefixMismatch n header at) t r v w row is = check_failed z d t.stamp r v w row is
+place_failed z d (NoChild n header) t r v w row is = check_failed z d t.stamp r v w row is
 place_failed z d Overlaps t r v w row is = check_failed z d t.stamp r v w row is
 place_failed z d Torn t r v w row is = check_failed z d t.stamp r v w row is
 place_failed z d Absent t r v w row is = check_failed z d t.stamp r v w row is
@@ -302,12 +303,12 @@ check_off z d x Done v w row is = absurd row
 check_off z d x (Checked (Ok done)) v w row is = cc
 check_off z d x (Checked (Err e)) v w row is = refl
 
-pub place_off : (z : Sizes) (d : Deed) (found : Verdict) (t : Stand) (r : Answer) (v w : View) → Answers z (telling d) (check_by found t) r v w → passed r ≡ false → goes_on r ≡ false
+pub place_off : (z : Sizes) (d : Deed) (found : Verdict) (t : Position) (r : Answer) (v w : View) → Answers z (telling d) (check_by found t) r v w → passed r ≡ false → goes_on r ≡ false
 place_off z d (Found l value) t r v w row is = settle_off z d t.stamp r v w row is
 place_off z d Empty t r v w row is = check_off z d t.stamp r v w row is
-place_off z d (OtherLeaf l at byte) t r v w row is = check_off z d t.stamp r v w row is
-place_off z d (OtherPrefix n header at) t r v w row is = check_off z d t.stamp r v w row is
-place_off z d (Free n header) t r v w row is = check_off z d t.stamp r v w row is
+place_off z d (LeafMismatch l at byte) t r v w row is = check_off z d t.stamp r v w row is
+place_off z d (PrefixMismatch n header at) t r v w row is = check_off z d t.stamp r v w row is
+place_off z d (NoChild n header) t r v w row is = check_off z d t.stamp r v w row is
 place_off z d Overlaps t r v w row is = check_off z d t.stamp r v w row is
 place_off z d Torn t r v w row is = check_off z d t.stamp r v w row is
 place_off z d Absent t r v w row is = check_off z d t.stamp r v w row is
@@ -317,30 +318,19 @@ pub place_comes : (z : Sizes) (k : List ℕ) (depth : ℕ) (x : Stamp) (d : Deed
     → check.Unchanged z v w x (told_by found d) → Comes found
 place_comes z k depth x d (Found l value) v w exact none says p = cc
 place_comes z k depth x d Empty v w exact none says p = tt
-place_comes z k depth x d (OtherLeaf l at byte) v w exact none says p = tt
-place_comes z k depth x d (OtherPrefix n header at) v w exact none says p = tt
-place_comes z k depth x d (Free n header) v w exact none says p = tt
+place_comes z k depth x d (LeafMismatch l at byte) v w exact none says p = tt
+place_comes z k depth x d (PrefixMismatch n header at) v w exact none says p = tt
+place_comes z k depth x d (NoChild n header) v w exact none says p = tt
 place_comes z k depth x d Overlaps v w exact none says p = cc
 place_comes z k depth x d Torn v w exact none says p = absurd (says p.vouched.0 p.vouched.1 p.vouched.2)
 place_comes z k depth x d Absent v w exact none says p = absurd (exact refl)
 
--- a check of such a place tells nothing
-plain_check : (z : Sizes) (d : Deed) (found : Verdict) (x : Stamp) (v w : View) → Comes found → check.Unchanged z v w x (told_by found d) → check.Unchanged z v w x None
-plain_check z d Empty x v w comes p = p
-plain_check z d (OtherLeaf l at byte) x v w comes p = p
-plain_check z d (OtherPrefix n header at) x v w comes p = p
-plain_check z d (Free n header) x v w comes p = p
-plain_check z d (Found l value) x v w comes p = absurd comes
-plain_check z d Overlaps x v w comes p = absurd comes
-plain_check z d Torn x v w comes p = absurd comes
-plain_check z d Absent x v w comes p = absurd comes
-
 -- that no other place is told leaves what was only read
 told_nothing : (z : Sizes) (d : Deed) (found : Verdict) (x : Stamp) (v w : View) → Comes found → check.Unchanged z v w x (told_by found d) → OnlyReads v w
 told_nothing z d Empty x v w comes p = passed_rest z v w x p
-told_nothing z d (OtherLeaf l at byte) x v w comes p = passed_rest z v w x p
-told_nothing z d (OtherPrefix n header at) x v w comes p = passed_rest z v w x p
-told_nothing z d (Free n header) x v w comes p = passed_rest z v w x p
+told_nothing z d (LeafMismatch l at byte) x v w comes p = passed_rest z v w x p
+told_nothing z d (PrefixMismatch n header at) x v w comes p = passed_rest z v w x p
+told_nothing z d (NoChild n header) x v w comes p = passed_rest z v w x p
 told_nothing z d (Found l value) x v w comes p = absurd comes
 told_nothing z d Overlaps x v w comes p = absurd comes
 told_nothing z d Torn x v w comes p = absurd comes
@@ -371,24 +361,18 @@ module _ (z : Sizes) (u : View) (m : Inserting) (r : Room) (v w : View) (short :
     has = stock_reads z r.row.key.items r.row.value f.early w r.stock only f.has;
   }
 
-  module _ (t : Stand) (s : StandsThere z r.row.key.items m.finding r.desk f.early v t) (d : Deed) where
+  module _ (t : Position) (s : StandsThere z r.row.key.items m.finding r.read_set f.early v t) (d : Deed) where
     pub only_then : OnlyReads v w → OnlyReads f.early w
     only_then only = (reads_on f.early v w only s.reads).only
 
-    -- the check of the place succeeded, and nothing was told
-    abbrev checked_there : check.Unchanged z v w t.stamp None → HasChecked z u r.row.key.items t r.desk t.stamp w
-    checked_there p = checked_since u f.early f.base z r.row.key.items t r.desk t.stamp w
-        (record {
-          before = v;
-          vouching = record { reads = s.reads; later = f.later.steps; standing = s.standing };
-          after = w;
-          passed = p;
-          done = omega arith;
-        })
+    -- the check of the place succeeded
+    stood_there : (o : Option Deed) → check.Unchanged z v w t.stamp o → StoodAtCheck z u r.row.key.items t r.read_set w
+    stood_there o p = stood_then z v w t.stamp o p u r.row.key.items t r.read_set (still_later u f.early f.base v f.later).steps
+        (standing_grows z r.row.key.items t r.read_set v w (passed_grows z v w t.stamp o p) s.standing)
 
-    entered_there : (found : Verdict) (e : Entered) → d ≡ present r.row (unwrap_or (value_of found) 0) → Says z r.row.key.items t.depth t.stamp found v
+    entered_there : (found : Verdict) (e : Entered) → t.verdict ≡ found → d ≡ present r.row (unwrap_or (value_of found) 0) → Says z r.row.key.items t.depth t.stamp found v
         → check.Unchanged z v w t.stamp (told_by found d) → entered_by found ≡ Some e → EndFits z u t r e w
-    entered_there (Found l value) e is says p at =
+    entered_there (Found l value) e here is says p at =
         let q = subst (λ (b : Deed). check.Unchanged z v w t.stamp (Some b)) is p in
         let k = told_rest z f.early v w t.stamp (present r.row value) s.reads.only q in
         let present_there : IsPresent z u r value w = record {
@@ -399,19 +383,19 @@ module _ (z : Sizes) (u : View) (m : Inserting) (r : Room) (v w : View) (short :
           has = stock_same z r.row.key.items r.row.value f.early w r.stock (ap (λ (o : Rest). o.hand) k.1) f.has;
         } in
         subst (λ (b : Entered). EndFits z u t r b w) (same_Some {A = Entered} (Present value) e at) present_there
-    entered_there Overlaps e is says p at =
+    entered_there Overlaps e here is says p at =
         subst (λ (b : Entered). EndFits z u t r b w) (same_Some {A = Entered} overlaps e at)
-        (ends_reading (only_then (passed_rest z v w t.stamp p)), record { place = checked_there p; overlap = says p.vouched.0 p.vouched.1 p.vouched.2 })
-    entered_there Empty e is says p at = cc
-    entered_there (OtherLeaf l i byte) e is says p at = cc
-    entered_there (OtherPrefix b header i) e is says p at = cc
-    entered_there (Free b header) e is says p at = cc
-    entered_there Torn e is says p at = cc
-    entered_there Absent e is says p at = cc
+        (ends_reading (only_then (passed_rest z v w t.stamp p)), record { stood = stood_there None p; checked = check_is z v w t.stamp None p; overlaps = here })
+    entered_there Empty e here is says p at = cc
+    entered_there (LeafMismatch l i byte) e here is says p at = cc
+    entered_there (PrefixMismatch b header i) e here is says p at = cc
+    entered_there (NoChild b header) e here is says p at = cc
+    entered_there Torn e here is says p at = cc
+    entered_there Absent e here is says p at = cc
 
     pub ends_there : (a : Answer) (e : Entered) → d ≡ present r.row (unwrap_or (value_of t.verdict) 0) → Answers z (telling d) (check_of t) a v w → passed a ≡ true
         → entered_by t.verdict ≡ Some e → EndFits z u t r e w
-    ends_there a e is row on at = entered_there t.verdict e is s.standing.says (place_passed z d t.verdict t a v w row on) at
+    ends_there a e is row on at = entered_there t.verdict e refl is s.standing.says (place_passed z d t.verdict t a v w row on) at
 
     pub fails_there : (a : Answer) → Answers z (telling d) (check_of t) a v w → passed a ≡ false → EndsSo z u r w × (u.failures < w.failures)
     fails_there a row off =
@@ -427,18 +411,21 @@ module _ (z : Sizes) (u : View) (m : Inserting) (r : Room) (v w : View) (short :
       pub comes_there : Comes t.verdict
       comes_there = place_comes z r.row.key.items t.depth t.stamp d t.verdict v w s.exact none s.standing.says unchanged
 
-      pub place_checked : HasChecked z u r.row.key.items t r.desk t.stamp w
-      place_checked = checked_there (plain_check z d t.verdict t.stamp v w comes_there unchanged)
+      pub checked_still : IsCheckOf t.stamp w
+      checked_still = check_is z v w t.stamp (told_by t.verdict d) unchanged
 
-      pub stands_still : IsStanding z r.row.key.items t r.desk w
-      stands_still = standing_grows z r.row.key.items t r.desk v w (passed_grows z v w t.stamp (told_by t.verdict d) unchanged) s.standing
+      pub stood_still : StoodAtCheck z u r.row.key.items t r.read_set w
+      stood_still = stood_there (told_by t.verdict d) unchanged
+
+      pub stands_still : IsStanding z r.row.key.items t r.read_set w
+      stands_still = standing_grows z r.row.key.items t r.read_set v w (passed_grows z v w t.stamp (told_by t.verdict d) unchanged) s.standing
 
       pub ends_so : EndsSo z u r w
       ends_so = ends_reading (only_then (told_nothing z d t.verdict t.stamp v w comes_there unchanged))
 
 -- the deed that the check of a place may tell
-pub deed_there : (m : Inserting) (r : Room) (t : Stand) → stand_at m.finding ≡ Some t → deed_at m r ≡ present r.row (unwrap_or (value_of t.verdict) 0)
-deed_there m r t is = ap (λ (o : Option Stand). present r.row (value_found o)) is
+pub deed_there : (m : Inserting) (r : Room) (t : Position) → position_at m.finding ≡ Some t → deed_at m r ≡ present r.row (unwrap_or (value_of t.verdict) 0)
+deed_there m r t is = ap (λ (o : Option Position). present r.row (value_found o)) is
 
 -- ---- each step may be made
 
@@ -472,7 +459,7 @@ module _ (z : Sizes) (u : View) (m : Inserting) (r : Room) (v : View) (f : IsFin
   descent_allowed : (a : Action) → asks m.finding.descent.stage ≡ Some a → MayLook z so v a
   descent_allowed a is = subst (λ (o : Option Action). IfSome o (MayLook z so v)) is (allowed z k (present_of r.row) m.finding.descent.depth m.finding.descent.stage f.early v f.fits.descent)
 
-  module _ (t : Stand) (s : StandsThere z k m.finding r.desk f.early v t) where
+  module _ (t : Position) (s : StandsThere z k m.finding r.read_set f.early v t) where
     plain : HasVersion z t.stamp.cell × check.May z v t.stamp None
     plain = (s.standing.stamp.inside, record { stamp = s.standing.stamp.stamp; tells = tt })
 
@@ -483,23 +470,23 @@ module _ (z : Sizes) (u : View) (m : Inserting) (r : Room) (v : View) (f : IsFin
         subst (λ (o : Option ℕ). Shows z v t.stamp (λ c. HasValue c k o)) (s.answers ∙ ap value_of at) may.1.shows in
         (may.0, record { stamp = may.1.stamp; tells = insert_settles z v t.stamp k r.row.value value shows })
     check_allowed Empty at = plain
-    check_allowed (OtherLeaf l i byte) at = plain
-    check_allowed (OtherPrefix n header i) at = plain
-    check_allowed (Free n header) at = plain
+    check_allowed (LeafMismatch l i byte) at = plain
+    check_allowed (PrefixMismatch n header i) at = plain
+    check_allowed (NoChild n header) at = plain
     check_allowed Overlaps at = plain
     check_allowed Torn at = plain
     check_allowed Absent at = plain
 
-  place_allowed : (o : Option Stand) (a : Action) → stand_at m.finding ≡ o → asks_place o (asks m.finding.descent.stage) ≡ Some a → MayAsk z (deed_at m r) v a
+  place_allowed : (o : Option Position) (a : Action) → position_at m.finding ≡ o → asks_place o (asks m.finding.descent.stage) ≡ Some a → MayAsk z (deed_at m r) v a
   place_allowed (Some t) a at is =
-      let s = stands_there z k (present_of r.row) m.finding r.desk f.early v f.fits f.exact t at in
+      let s = stands_there z k (present_of r.row) m.finding r.read_set f.early v f.fits f.exact t at in
       let may : MayAsk z (deed_at m r) v (check_of t) = subst (λ (d : Deed). MayAsk z d v (check_of t)) (sym (deed_there m r t at)) (check_allowed t s t.verdict refl) in
       subst (MayAsk z (deed_at m r) v) (same_Some {A = Action} (check_of t) a is) may
   place_allowed None a at is =
       not_settling z (deed_at m r) so v a (place_plain m.finding.descent.stage (undecided m.finding at) a is) (descent_allowed a is)
 
   pub finding_allowed : (a : Action) → finding_asks m.finding ≡ Some a → MayAsk z (deed_at m r) v a
-  finding_allowed a is = place_allowed (stand_at m.finding) a refl is
+  finding_allowed a is = place_allowed (position_at m.finding) a refl is
 
 -- what may be asked of a place may be asked of a look, where it tells nothing of a row
 pub may_look : (z : Sizes) (d : Deed) (v : View) (a : Action) → MayAsk z d v a → MayLook z (λ s. ⊤) v a
@@ -523,8 +510,8 @@ may_look z d v RaiseEpoch may = absurd may
 may_look z d v (ReadPin q) may = absurd may
 
 -- where the place is known, its check is asked for
-pub asks_check : (m : Finding) (t : Stand) → stand_at m ≡ Some t → finding_asks m ≡ Some (check_of t)
-asks_check m t is = ap (λ (o : Option Stand). asks_place o (asks m.descent.stage)) is
+pub asks_check : (m : Finding) (t : Position) → position_at m ≡ Some t → finding_asks m ≡ Some (check_of t)
+asks_check m t is = ap (λ (o : Option Position). asks_place o (asks m.descent.stage)) is
 
 -- ---- while it goes on a step is asked for
 
@@ -544,9 +531,9 @@ stage_asks (Bytes seen i r) going = (_, refl)
 stage_asks (Decided x found) going = (_, refl)
 stage_asks (Ended o) going = absurd (cc)
 
-place_asks : (o : Option Stand) (s : Stage) → ended_at s ≡ None → (a : Action) × (asks_place o (asks s) ≡ Some a)
+place_asks : (o : Option Position) (s : Stage) → ended_at s ≡ None → (a : Action) × (asks_place o (asks s) ≡ Some a)
 place_asks (Some t) s going = (check_of t, refl)
 place_asks None s going = stage_asks s going
 
 pub finding_going : (m : Finding) → ended_at m.descent.stage ≡ None → (a : Action) × (finding_asks m ≡ Some a)
-finding_going m going = place_asks (stand_at m) m.descent.stage going
+finding_going m going = place_asks (position_at m) m.descent.stage going

@@ -17,10 +17,10 @@ use Rattle.art_gather.specs.Vouching as vouching
 use Rattle.art_gather.specs.Vouching.{IsVouching}
 use Rattle.art_gather.specs.declared.vouching.Vouching.{Vouching}
 use Rattle.art_gather.specs.declared.vouching.Vouching.TheVariants as vouches
-use Rattle.art_make.specs.Making as making
-use Rattle.art_make.specs.Making.{IsLocking, so_many}
-use Rattle.art_make.specs.declared.making.Making.{Making}
-use Rattle.art_make.specs.declared.making.Making.TheVariants.{Upgrading, Claiming, Filling, Writing, Committing, Releasing, ReleasingNode, GivingUp, Ended}
+use Rattle.art_make.specs.Apply as apply
+use Rattle.art_make.specs.Apply.{IsLocking, so_many}
+use Rattle.art_make.specs.declared.apply.Apply.{Apply}
+use Rattle.art_make.specs.declared.apply.Apply.TheVariants.{Upgrading, Claiming, Filling, Writing, Committing, Releasing, ReleasingNode, GivingUp, Ended}
 use Rattle.art_plan.specs.Changes.{IsTarget}
 use Rattle.art_plan.specs.Whole.{IsNewBy}
 use Rattle.art_plan.specs.declared.changes.Change.{Change}
@@ -46,7 +46,7 @@ locking_none u c v p = none_held v.held (λ h m. ⊎_elim
     (λ (n : IsNewBy u c (so_many 0 0) h). absurd (none_new n.which n.some))
     (p.holds.only h m))
 
-pub begun_locking : (c : Change) (m : Making) (u v : View) → is_begun m ≡ true → making.StageFits c m u v → IsLocking u c 0 [] (so_many 0 0) v
+pub begun_locking : (c : Change) (m : Apply) (u v : View) → is_begun m ≡ true → apply.StageFits c m u v → IsLocking u c 0 [] (so_many 0 0) v
 begun_locking c (Upgrading i) u v is fits = subst (λ (j : ℕ). IsLocking u c j [] (so_many 0 0) v) (eqb-true i 0 is) fits.1
 begun_locking c (Claiming b) u v is fits = cc
 begun_locking c (Filling b place) u v is fits = cc
@@ -58,7 +58,7 @@ begun_locking c (GivingUp locked released e) u v is fits = cc
 begun_locking c (Ended r) u v is fits = cc
 
 -- no step of the change was made
-pub begun_made : (m : Making) → is_begun m ≡ true → making.most_steps m ≡ 0
+pub begun_made : (m : Apply) → is_begun m ≡ true → apply.most_steps m ≡ 0
 begun_made (Upgrading i) is = eqb-true i 0 is
 begun_made (Claiming b) is = cc
 begun_made (Filling b place) is = cc
@@ -72,7 +72,7 @@ begun_made (Ended r) is = cc
 -- ---- at each stage
 
 vouching_goes : (z : Sizes) (r : Room) (m : Inserting) (s : Vouching) (u v : View) → vouching.ended_at s ≡ None
-    → vouching.StageFits z r.row.key.items (both_of m.stand.verdict) m.stand s r.desk u v → IsVouching z r.row.key.items m.stand r.desk u v
+    → vouching.StageFits z r.row.key.items (both_of m.position.verdict) m.position s r.read_set u v → IsVouching z r.row.key.items m.position r.read_set u v
 vouching_goes z r m (vouches.Above q) u v is fits = fits.0
 vouching_goes z r m (vouches.Here q) u v is fits = fits.0
 vouching_goes z r m vouches.CheckAbove u v is fits = fits.0
@@ -88,9 +88,9 @@ module _ (z : Sizes) (u : View) (m : Inserting) (r : Room) (v : View) where
   vouching_so : HasVouched z u m r v → vouching.ended_at m.vouching ≡ None → EndsSo z u r v
   vouching_so h going = vouched_ends z u m r v h (vouching_goes z r m m.vouching h.early v going h.fits.stage).reads
 
-  making_so : HasMade z u m r v → is_begun m.making ≡ true → EndsSo z u r v
-  making_so h is =
-      let p = begun_locking r.change m.making h.early v is h.fits.stage in
+  apply_so : HasMade z u m r v → is_begun m.apply ≡ true → EndsSo z u r v
+  apply_so h is =
+      let p = begun_locking r.change m.apply h.early v is h.fits.stage in
       let free = locking_none h.early r.change v p in
       let base = h.base in
       let still : StillTries u v = record {
@@ -102,13 +102,13 @@ module _ (z : Sizes) (u : View) (m : Inserting) (r : Room) (v : View) where
       } in
       record {
         still = still;
-        spent = λ limited. (let spent = h.spent limited in let steps = h.fits.steps in let most = begun_made m.making is in let more = h.later.failures in omega (arith, spent, steps, most, more));
+        spent = λ limited. (let spent = h.spent limited in let steps = h.fits.steps in let most = begun_made m.apply is in let more = h.later.failures in omega (arith, spent, steps, most, more));
         has = stock_same z r.row.key.items r.row.value h.early v r.stock (ap (λ (o : Rest). o.hand) p.same.rest) h.has;
       }
 
-  pub free_so : length r.row.key.items ≤ 64 → (s : Stage) → free_at s m.making ≡ true → entered_at s ≡ None → StageFits z u s m r v → EndsSo z u r v
+  pub free_so : length r.row.key.items ≤ 64 → (s : Stage) → free_at s m.apply ≡ true → entered_at s ≡ None → StageFits z u s m r v → EndsSo z u r v
   free_so short stage.Finding is going fits = finding_so short fits
-  free_so short stage.Supplying is going fits = supplies_so z u m r v fits.0
+  free_so short stage.Reserve is going fits = supplies_so z u m r v fits.0
   free_so short stage.Vouching is going fits = vouching_so fits.0 fits.1
-  free_so short stage.Making is going fits = making_so fits.0 is
+  free_so short stage.Apply is going fits = apply_so fits.0 is
   free_so short (stage.Ended e) is going fits = cc

@@ -11,20 +11,20 @@ use Rattle.art_epoch.specs.declared.taking.Search.TheVariants.{Looking, Clearing
 use Rattle.art_epoch.specs.declared.taking.Taking.{Taking}
 use Rattle.art_find.specs.Rereadings.{reads_next}
 use Rattle.art_find.specs.declared.findings.Above.{Above as CellAbove}
-use Rattle.art_find.specs.declared.findings.Stand.{Stand}
+use Rattle.art_find.specs.declared.findings.Position.{Position}
 use Rattle.art_find.specs.declared.rereadings.Rereading.{Rereading}
 use Rattle.art_find.specs.declared.verdicts.Verdict.{Verdict}
 use Rattle.art_find.specs.declared.verdicts.Verdict.TheVariants as verdict
 use Rattle.art_frame.specs.declared.stocks.Stock.{Stock}
 use Rattle.art_gather.specs.Lowering as lowering
-use Rattle.art_gather.specs.Supplying as supplying
-use Rattle.art_gather.specs.Supplying.{leaf_asked}
+use Rattle.art_gather.specs.Reserve as reserve
+use Rattle.art_gather.specs.Reserve.{leaf_asked}
 use Rattle.art_gather.specs.Vouching as vouching
 use Rattle.art_gather.specs.Vouching.{above_checks, above_reads}
 use Rattle.art_gather.specs.declared.lowering.Lowering.{Lowering}
 use Rattle.art_gather.specs.declared.lowering.Lowering.TheVariants as lower
-use Rattle.art_gather.specs.declared.supplying.Supplying.{Supplying}
-use Rattle.art_gather.specs.declared.supplying.Supplying.TheVariants as supply
+use Rattle.art_gather.specs.declared.reserve.Reserve.{Reserve}
+use Rattle.art_gather.specs.declared.reserve.Reserve.TheVariants as supply
 use Rattle.art_gather.specs.declared.vouching.Vouching.{Vouching}
 use Rattle.art_gather.specs.declared.vouching.Vouching.TheVariants as vouch
 use Rattle.art_machine.proofs.AnswerKinds.{answers_any}
@@ -37,10 +37,10 @@ use Rattle.art_machine.specs.declared.actions.Answer.{Answer}
 use Rattle.art_machine.specs.declared.actions.Answer.TheVariants.{Begun, Word, Checked, Upgraded, Done}
 use Rattle.art_machine.specs.declared.actions.Effects.{Effects}
 use Rattle.art_make.proofs.Told.{map_some}
-use Rattle.art_make.specs.Making as making
-use Rattle.art_make.specs.Making.{put_into, releases}
-use Rattle.art_make.specs.declared.making.Making.{Making}
-use Rattle.art_make.specs.declared.making.Making.TheVariants as make
+use Rattle.art_make.specs.Apply as apply
+use Rattle.art_make.specs.Apply.{put_into, releases}
+use Rattle.art_make.specs.declared.apply.Apply.{Apply}
+use Rattle.art_make.specs.declared.apply.Apply.TheVariants as make
 use Rattle.art_cell.specs.Leaves.{leaf_word}
 use Rattle.art_cell.specs.declared.cells.Cell.TheVariants as cell
 use Rattle.art_cell.specs.declared.cells.Node.{Node}
@@ -89,9 +89,9 @@ taking_supply t a is = by_search t.search is
     by_search (Clearing n k) e = subst IsSupply (same_Some (ClearBit t.pool (taking.around t.words t.first n) (Some k)) a e) tt
     by_search (Took n k) e = absurd (cc)
 
-pub supply_asks_supply : (k : List ℕ) (value : ℕ) (s : Stock) (m : Supplying) (a : Action) → supplying.asks k value s m ≡ Some a → IsSupply a
+pub supply_asks_supply : (k : List ℕ) (value : ℕ) (s : Stock) (m : Reserve) (a : Action) → reserve.asks k value s m ≡ Some a → IsSupply a
 supply_asks_supply k value s (supply.Leaf t) a is = taking_supply t a is
-supply_asks_supply k value s (supply.Packing p) a is =
+supply_asks_supply k value s (supply.LeafWriter p) a is =
     let l = then_some (leaf_asked k value p) s.leaf a is in
     subst IsSupply (if_some (nat_lt p.place 10) (WriteLeaf l.0 p.place (leaf_word k value p.place)) a l.2) tt
 supply_asks_supply k value s (supply.Node t) a is = taking_supply t a is
@@ -106,14 +106,14 @@ above_look r o a is = let k = then_some (above_reads r) o a is in reads_look k.0
 above_check : (o : Option CellAbove) (a : Action) → option_map above_checks o ≡ Some a → IsLook a
 above_check o a is = let k = map_some above_checks o a is in subst IsLook k.2 tt
 
-pub vouch_asks_look : (t : Stand) (m : Vouching) (a : Action) → vouching.asks t m ≡ Some a → IsLook a
+pub vouch_asks_look : (t : Position) (m : Vouching) (a : Action) → vouching.asks t m ≡ Some a → IsLook a
 vouch_asks_look t (vouch.Above r) a is = above_look r t.above a is
 vouch_asks_look t (vouch.Here r) a is = reads_look t.stamp r a is
 vouch_asks_look t vouch.CheckAbove a is = above_check t.above a is
 vouch_asks_look t vouch.CheckHere a is = subst IsLook (same_Some (Check t.stamp) a is) tt
 vouch_asks_look t (vouch.Ended r) a is = absurd (cc)
 
-pub lower_asks_look : (t : Stand) (m : Lowering) (a : Action) → lowering.asks t m ≡ Some a → IsLook a
+pub lower_asks_look : (t : Position) (m : Lowering) (a : Action) → lowering.asks t m ≡ Some a → IsLook a
 lower_asks_look t (lower.Beginning n) a is = subst IsLook (same_Some (Begin (cell.Node n)) a is) tt
 lower_asks_look t (lower.Named x) a is = subst IsLook (same_Some (Check t.stamp) a is) tt
 lower_asks_look t (lower.Above x r) a is = above_look r t.above a is
@@ -123,27 +123,27 @@ lower_asks_look t (lower.CheckHere x) a is = subst IsLook (same_Some (Check t.st
 lower_asks_look t (lower.CheckLower x) a is = subst IsLook (same_Some (Check x) a is) tt
 lower_asks_look t (lower.Ended r) a is = absurd (cc)
 
-pub making_asks_made : (c : ChangeOf) (m : Making) (a : Action) → making.asks c m ≡ Some a → IsMade a
-making_asks_made c (make.Upgrading i) a is = let k = map_some (λ (x : Target). Upgrade x.stamp) (target_at c i) a is in subst IsMade k.2 tt
-making_asks_made c (make.Claiming b) a is = let k = map_some Claim (made_at b c) a is in subst IsMade k.2 tt
-making_asks_made c (make.Filling b place) a is = let k = map_some (λ (n : Node). Write (cell.Node n) place (made_word b c place)) (made_at b c) a is in subst IsMade k.2 tt
-making_asks_made c (make.Writing j) a is =
+pub apply_asks_made : (c : ChangeOf) (m : Apply) (a : Action) → apply.asks c m ≡ Some a → IsMade a
+apply_asks_made c (make.Upgrading i) a is = let k = map_some (λ (x : Target). Upgrade x.stamp) (target_at c i) a is in subst IsMade k.2 tt
+apply_asks_made c (make.Claiming b) a is = let k = map_some Claim (made_at b c) a is in subst IsMade k.2 tt
+apply_asks_made c (make.Filling b place) a is = let k = map_some (λ (n : Node). Write (cell.Node n) place (made_word b c place)) (made_at b c) a is in subst IsMade k.2 tt
+apply_asks_made c (make.Writing j) a is =
     let p = then_some (λ (q : Put). option_map (put_into q) (target_at c q.target)) (put_at c j) a is in
     let x = map_some (put_into p.0) (target_at c p.0.target) a p.2 in
     subst IsMade x.2 tt
-making_asks_made c make.Committing a is = let k = map_some (λ (x : Target). Commit x.stamp.cell x.obsolete) (target_at c 0) a is in subst IsMade k.2 tt
-making_asks_made c (make.Releasing i) a is = let k = map_some releases (target_at c i) a is in subst IsMade k.2 tt
-making_asks_made c (make.ReleasingNode b) a is = let k = map_some (λ (n : Node). Release (cell.Node n) false) (made_at b c) a is in subst IsMade k.2 tt
-making_asks_made c (make.GivingUp locked released e) a is = let k = map_some (λ (x : Target). Release x.stamp.cell false) (target_at c released) a is in subst IsMade k.2 tt
-making_asks_made c (make.Ended r) a is = absurd (cc)
+apply_asks_made c make.Committing a is = let k = map_some (λ (x : Target). Commit x.stamp.cell x.obsolete) (target_at c 0) a is in subst IsMade k.2 tt
+apply_asks_made c (make.Releasing i) a is = let k = map_some releases (target_at c i) a is in subst IsMade k.2 tt
+apply_asks_made c (make.ReleasingNode b) a is = let k = map_some (λ (n : Node). Release (cell.Node n) false) (made_at b c) a is in subst IsMade k.2 tt
+apply_asks_made c (make.GivingUp locked released e) a is = let k = map_some (λ (x : Target). Release x.stamp.cell false) (target_at c released) a is in subst IsMade k.2 tt
+apply_asks_made c (make.Ended r) a is = absurd (cc)
 
 -- so is the check of a place
-pub check_look : (found : Verdict) (t : Stand) → IsLook (check_by found t)
+pub check_look : (found : Verdict) (t : Position) → IsLook (check_by found t)
 check_look (verdict.Found l value) t = tt
 check_look verdict.Empty t = tt
-check_look (verdict.OtherLeaf l at byte) t = tt
-check_look (verdict.OtherPrefix n header at) t = tt
-check_look (verdict.Free n header) t = tt
+check_look (verdict.LeafMismatch l at byte) t = tt
+check_look (verdict.PrefixMismatch n header at) t = tt
+check_look (verdict.NoChild n header) t = tt
 check_look verdict.Overlaps t = tt
 check_look verdict.Torn t = tt
 check_look verdict.Absent t = tt
@@ -230,7 +230,7 @@ plain_may z d c v (StorePin word) plain may = may
 plain_may z d c v RaiseEpoch plain may = may
 plain_may z d c v (ReadPin q) plain may = may
 
-pub made_may : (z : Sizes) (d : Deed) (c : ChangeOf) (v : View) (a : Action) → IsMade a → acting.IsAllowed z (making.brings c) v a → IsAllowed z d c v a
+pub made_may : (z : Sizes) (d : Deed) (c : ChangeOf) (v : View) (a : Action) → IsMade a → acting.IsAllowed z (apply.brings c) v a → IsAllowed z d c v a
 made_may z d c v (Begin x) made may = absurd made
 made_may z d c v (Read x i) made may = absurd made
 made_may z d c v (ReadLeaf x l i) made may = absurd made
@@ -295,18 +295,18 @@ look_row z d c (StorePin word) r v w is row = absurd is
 look_row z d c RaiseEpoch r v w is row = absurd is
 look_row z d c (ReadPin q) r v w is row = absurd is
 
-pub made_row : (z : Sizes) (d : Deed) (c : ChangeOf) (a : Action) (r : Answer) (v w : View) → IsMade a → Answers z d c a r v w → acting.Answers z (making.brings c) a r v w
+pub made_row : (z : Sizes) (d : Deed) (c : ChangeOf) (a : Action) (r : Answer) (v w : View) → IsMade a → Answers z d c a r v w → acting.Answers z (apply.brings c) a r v w
 made_row z d c (Begin x) r v w is row = absurd is
 made_row z d c (Read x i) r v w is row = absurd is
 made_row z d c (ReadLeaf x l i) r v w is row = absurd is
 made_row z d c (Check x) r v w is row = absurd is
 made_row z d c (Settle x) r v w is row = absurd is
-made_row z d c (Upgrade x) r v w is row = answers_any z (making.brings c) (Upgrade x) r v w row
-made_row z d c (Claim n) r v w is row = answers_any z (making.brings c) (Claim n) r v w row
-made_row z d c (Write b i word) r v w is row = answers_any z (making.brings c) (Write b i word) r v w row
+made_row z d c (Upgrade x) r v w is row = answers_any z (apply.brings c) (Upgrade x) r v w row
+made_row z d c (Claim n) r v w is row = answers_any z (apply.brings c) (Claim n) r v w row
+made_row z d c (Write b i word) r v w is row = answers_any z (apply.brings c) (Write b i word) r v w row
 made_row z d c (WriteLeaf l i word) r v w is row = absurd is
 made_row z d c (Commit b o) r v w is row = row
-made_row z d c (Release b o) r v w is row = answers_any z (making.brings c) (Release b o) r v w row
+made_row z d c (Release b o) r v w is row = answers_any z (apply.brings c) (Release b o) r v w row
 made_row z d c (ClearBit p i o) r v w is row = absurd is
 made_row z d c (GiveBack e) r v w is row = absurd is
 made_row z d c (Free e) r v w is row = absurd is
@@ -389,6 +389,6 @@ supply_once z f (StorePin word) r v w is row = absurd is
 supply_once z f RaiseEpoch r v w is row = absurd is
 supply_once z f (ReadPin q) r v w is row = absurd is
 
--- so of a supplying one is made
+-- so of a reserve one is made
 pub supply_steps : (z : Sizes) (a : Action) (r : Answer) (v w : View) → IsSupply a → acting.IsAllowed z None v a → acting.Answers z None a r v w → w.steps ≡ v.steps + 1
 supply_steps z a r v w is may row = steps_made z None a r v w may row ∙ ap (λ (n : ℕ). v.steps + n) (supply_once z None a r v w is row)

@@ -8,6 +8,7 @@ pub mod Finds
 pub mod Free
 pub mod Given
 mod Heard
+pub mod LastCheck
 pub mod Left
 pub mod Looks
 pub mod Overlaps

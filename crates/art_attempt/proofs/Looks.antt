@@ -6,9 +6,9 @@ use Rattle.art_gather.specs.Vouching.{failures_of}
 use Rattle.art_gather.specs.declared.vouching.Vouched.TheVariants as vouched
 use Rattle.art_gather.specs.declared.vouching.Vouching.{Vouching}
 use Rattle.art_gather.specs.declared.vouching.Vouching.TheVariants as vouching
-use Rattle.art_make.specs.Making.{most_steps}
-use Rattle.art_make.specs.declared.making.Making.{Making}
-use Rattle.art_make.specs.declared.making.Making.TheVariants.{Upgrading, Claiming, Filling, Writing, Committing, Releasing, ReleasingNode, GivingUp, Ended}
+use Rattle.art_make.specs.Apply.{most_steps}
+use Rattle.art_make.specs.declared.apply.Apply.{Apply}
+use Rattle.art_make.specs.declared.apply.Apply.TheVariants.{Upgrading, Claiming, Filling, Writing, Committing, Releasing, ReleasingNode, GivingUp, Ended}
 
 pub no_fewer : (m : Vouching) (n : ℕ) → n ≤ failures_of m n
 no_fewer (vouching.Above r) n = omega arith
@@ -18,7 +18,7 @@ no_fewer vouching.CheckHere n = omega arith
 no_fewer (vouching.Ended vouched.Unchanged) n = omega arith
 no_fewer (vouching.Ended vouched.Changed) n = omega arith
 
-pub begun_none : (m : Making) → 0 < most_steps m → is_begun m ≡ false
+pub begun_none : (m : Apply) → 0 < most_steps m → is_begun m ≡ false
 begun_none (Upgrading i) more = ne_eqb i 0 (λ e. absurd (omega (arith, e, more)))
 begun_none (Claiming b) more = refl
 begun_none (Filling b place) more = refl

@@ -11,13 +11,13 @@ use Rattle.art_attempt.specs.declared.rooms.Room.{Room}
 use Rattle.art_find.specs.Descents as descents
 use Rattle.art_find.specs.Verdicts.{HasOverlap, Says}
 use Rattle.art_find.specs.declared.verdicts.Verdict.{Verdict}
-use Rattle.art_find.specs.declared.verdicts.Verdict.TheVariants.{Found, Empty, OtherLeaf, OtherPrefix, Free, Overlaps, Torn, Absent}
+use Rattle.art_find.specs.declared.verdicts.Verdict.TheVariants.{Found, Empty, LeafMismatch, PrefixMismatch, NoChild, Overlaps, Torn, Absent}
 use Rattle.art_machine.specs.Acting.{PassesAmong, passed}
 use Rattle.art_machine.specs.declared.actions.Action.{Action}
 use Rattle.art_machine.specs.declared.actions.Action.TheVariants.{Check}
 use Rattle.art_machine.specs.declared.actions.Answer.{Answer}
 use Rattle.art_machine.specs.declared.actions.Answer.TheVariants.{Begun, Word, Checked, Upgraded, Done}
-use Rattle.art_find.specs.declared.findings.Stand.{Stand}
+use Rattle.art_find.specs.declared.findings.Position.{Position}
 use Rattle.art_step.specs.Histories.{AreApart}
 use Rattle.art_step.specs.Knowledge.{HoldsAmong}
 use Rattle.art_step.specs.Shows.{Shows}
@@ -32,9 +32,9 @@ use Rattle.art_tree.specs.Tree.{Begins}
 pub overlap_there : (found : Verdict) → entered_by found ≡ Some overlaps → found ≡ Overlaps
 overlap_there (Found l value) is = cc
 overlap_there Empty is = cc
-overlap_there (OtherLeaf l at byte) is = cc
-overlap_there (OtherPrefix n header at) is = cc
-overlap_there (Free n header) is = cc
+overlap_there (LeafMismatch l at byte) is = cc
+overlap_there (PrefixMismatch n header at) is = cc
+overlap_there (NoChild n header) is = cc
 overlap_there Overlaps is = refl
 overlap_there Torn is = cc
 overlap_there Absent is = cc
@@ -44,6 +44,21 @@ pub made_apart : (made : Result ⊤ UpgradeFault) → entered_so made ≡ overla
 made_apart (Ok done) is = cc
 made_apart (Err (fault.Changed e)) is = cc
 made_apart (Err (fault.Exhausted c)) is = cc
+
+-- an overlap comes by the answer to a check, whose stamp shows one
+pub overlap_checked : (z : Sizes) (u v : View) (m : Inserting) (r : Room) (asked : Action) (answer : Answer) → Fits z u m r v → asks m r ≡ Some asked → IsOverlapBy m answer
+    → (x : Stamp) × (asked ≡ Check x) × Shows z v x (λ s. HasOverlap s r.row.key.items)
+overlap_checked z u v m r asked answer fits at o =
+    let k = r.row.key.items in
+    let t = o.position in
+    let f : IsFinding z u m r v = subst (λ (s : Stage). StageFits z u s m r v) o.finding fits.stage in
+    let there = stands_there z k (present_of r.row) m.finding r.read_set f.early v f.fits f.exact t o.there in
+    let says : Says z k t.depth t.stamp Overlaps v = subst (λ (found : Verdict). Says z k t.depth t.stamp found v) o.overlaps there.standing.says in
+    let checks : asks m r ≡ Some (Check t.stamp) =
+    ap (λ (s : Stage). asks_at s m r) o.finding
+    ∙ (ap (λ (p : Option Position). asks_place p (descents.asks m.finding.descent.stage)) o.there
+    ∙ ap (λ (found : Verdict). Some (check_by found t)) o.overlaps) in
+    (t.stamp, same_Some {A = Action} asked (Check t.stamp) (sym at ∙ checks), says)
 
 module _ (A : List ℕ → Type 0) (z : Sizes) (v : View) where
   -- what such a check tells
@@ -56,7 +71,7 @@ module _ (A : List ℕ → Type 0) (z : Sizes) (v : View) where
   passed_among x Done among is = cc
 
   -- where keys are apart, none of them overlaps another
-  none_overlaps : AreApart A → (x : Stamp) (k : List ℕ) → A k → HoldsAmong A z v x → Shows z v x (λ s. HasOverlap s k) → ⊥
+  pub none_overlaps : AreApart A → (x : Stamp) (k : List ℕ) → A k → HoldsAmong A z v x → Shows z v x (λ s. HasOverlap s k) → ⊥
   none_overlaps apart x k is among shows =
       let o = shows among.cells among.shape among.holds in
       let other : A o.key = among.keys o.key o.value o.row in
@@ -65,18 +80,9 @@ module _ (A : List ℕ → Type 0) (z : Sizes) (v : View) where
       (λ (front : Begins k o.key). o.other (sym (apart k o.key is other front)))
       o.overlaps
 
-  module _ (apart : AreApart A) (u : View) (m : Inserting) (r : Room) (fits : Fits z u m r v) (is : A r.row.key.items) where
-    pub never_overlaps : (asked : Action) (answer : Answer) → asks m r ≡ Some asked → PassesAmong A z v asked answer → IsOverlapBy m answer → ⊥
-    never_overlaps asked answer at among o =
-        let k = r.row.key.items in
-        let t = o.stand in
-        let f : IsFinding z u m r v = subst (λ (s : Stage). StageFits z u s m r v) o.finding fits.stage in
-        let there = stands_there z k (present_of r.row) m.finding r.desk f.early v f.fits f.exact t o.there in
-        let says : Says z k t.depth t.stamp Overlaps v = subst (λ (found : Verdict). Says z k t.depth t.stamp found v) o.overlaps there.standing.says in
-        let checks : asks m r ≡ Some (Check t.stamp) =
-        ap (λ (s : Stage). asks_at s m r) o.finding
-        ∙ (ap (λ (p : Option Stand). asks_place p (descents.asks m.finding.descent.stage)) o.there
-        ∙ ap (λ (found : Verdict). Some (check_by found t)) o.overlaps) in
-        let one : asked ≡ Check t.stamp = same_Some {A = Action} asked (Check t.stamp) (sym at ∙ checks) in
-        let here : PassesAmong A z v (Check t.stamp) answer = subst (λ (a : Action). PassesAmong A z v a answer) one among in
-        none_overlaps apart t.stamp k is (passed_among t.stamp answer here o.succeeded) says
+  pub never_overlaps : AreApart A → (u : View) (m : Inserting) (r : Room) → Fits z u m r v → A r.row.key.items → (asked : Action) (answer : Answer) → asks m r ≡ Some asked → PassesAmong A z v asked answer → IsOverlapBy m answer
+      → ⊥
+  never_overlaps apart u m r fits is asked answer at among o =
+      let c = overlap_checked z u v m r asked answer fits at o in
+      let here : PassesAmong A z v (Check c.0) answer = subst (λ (a : Action). PassesAmong A z v a answer) c.1 among in
+      none_overlaps apart c.0 r.row.key.items is (passed_among c.0 answer here o.succeeded) c.2

@@ -3,8 +3,8 @@ use Rattle.std.proofs.Common.{ℕ, ◌≤◌, ◌^◌, Option, Some, None, arith
 use Rattle.art_attempt.specs.Trying.{IsLimited}
 use Rattle.art_cell.specs.declared.layouts.Layout.{Layout}
 use Rattle.art_cell.specs.declared.layouts.Layout.TheVariants.{Node4, Node16, Node48, Node256}
-use Rattle.art_gather.specs.Supplying.{few_steps, node_looks}
-use Rattle.art_gather.specs.declared.supplying.Wants.{Wants}
+use Rattle.art_gather.specs.Reserve.{few_steps, node_looks}
+use Rattle.art_gather.specs.declared.reserve.Demand.{Demand}
 use Rattle.art_step.specs.WordPlaces.{free_words}
 use Rattle.art_step.specs.declared.views.Sizes.{Sizes}
 
@@ -21,8 +21,8 @@ few_nodes z (Some Node16) limited = let low = limited.n16 in let few = few_node_
 few_nodes z (Some Node48) limited = let low = limited.n48 in let few = few_node_words z.n48 (omega (arith, low)) in omega (arith, few)
 few_nodes z (Some Node256) limited = let low = limited.n256 in let few = few_node_words z.n256 (omega (arith, low)) in omega (arith, few)
 
-pub few_looks : (z : Sizes) (wants : Wants) → IsLimited z → few_steps z wants ≤ 20492
-few_looks z wants limited =
+pub few_looks : (z : Sizes) (demand : Demand) → IsLimited z → few_steps z demand ≤ 20492
+few_looks z demand limited =
     let leaves = few_words z.leaves limited.leaves in
-    let nodes = few_nodes z wants.node limited in
+    let nodes = few_nodes z demand.node limited in
     omega (arith, leaves, nodes)

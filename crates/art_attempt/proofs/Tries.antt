@@ -7,12 +7,12 @@ use Rattle.art_gather.specs.Vouching.{CheckedSince}
 use Rattle.art_frame.proofs.Stocked.{stock_same}
 use Rattle.art_frame.specs.Stocks.{HasStock}
 use Rattle.art_frame.specs.declared.stocks.Stock.{Stock}
-use Rattle.art_make.specs.Making.{HasFailed, IsCommitted}
+use Rattle.art_make.specs.Apply.{HasFailed, IsCommitted}
 use Rattle.art_find.proofs.FoundPlaces.{standing_grows}
 use Rattle.art_find.proofs.Keeping.{Grows}
 use Rattle.art_find.specs.Findings.{IsStanding}
-use Rattle.art_find.specs.declared.desks.Desk.{Desk}
-use Rattle.art_find.specs.declared.findings.Stand.{Stand}
+use Rattle.art_find.specs.declared.read_sets.ReadSet.{ReadSet}
+use Rattle.art_find.specs.declared.findings.Position.{Position}
 use Rattle.art_plan.specs.Changes.{unlinked}
 use Rattle.art_plan.specs.declared.changes.Change.{Change}
 use Rattle.art_step.specs.Events.{MakesEvent}
@@ -58,8 +58,8 @@ takes_grow v w only = record {
   notes = λ y m. subst (λ (ys : List Note). Member y ys) (sym (ap (λ (t : View). t.notes) only)) m;
 }
 
-pub standing_takes : (z : Sizes) (k : List ℕ) (t : Stand) (desk : Desk) (v w : View) → OnlyTakes v w → IsStanding z k t desk v → IsStanding z k t desk w
-standing_takes z k t desk v w only at = standing_grows z k t desk v w (takes_grow v w only) at
+pub standing_takes : (z : Sizes) (k : List ℕ) (t : Position) (read_set : ReadSet) (v w : View) → OnlyTakes v w → IsStanding z k t read_set v → IsStanding z k t read_set w
+standing_takes z k t read_set v w only at = standing_grows z k t read_set v w (takes_grow v w only) at
 
 -- ---- nothing is told
 
@@ -105,8 +105,8 @@ module _ (u early : View) (base : StillTries u early) where
     }
 
   -- a check that succeeded since then did so since the view u
-  abbrev pub checked_since : (z : Sizes) (k : List ℕ) (t : Stand) (desk : Desk) (x : Stamp) (v : View) → CheckedSince z k t desk early x v → HasChecked z u k t desk x v
-  checked_since z k t desk x v checked = record { early = early; base = base; checked = checked }
+  abbrev pub checked_since : (z : Sizes) (k : List ℕ) (t : Position) (read_set : ReadSet) (x : Stamp) (v : View) → CheckedSince z k t read_set early x v → HasChecked z u k t read_set x v
+  checked_since z k t read_set x v checked = record { early = early; base = base; checked = checked }
 
   -- ---- an event is made
 

@@ -1,12 +1,12 @@
 -- The words of a change leave as many steps fewer, and hold what is known of the attempt.
 use Rattle.std.proofs.Common.{◌≡◌, ℕ, ◌+◌, ◌-◌, ◌≤◌, ◌==◌, if◌then◌else◌, eq-eqb, true, false, refl, arith, ⊎_elim}
 use Rattle.std.proofs.lemmas.Bool.{cases_Bool, eqb-true, eqb-false}
-use Rattle.art_attempt.specs.Inserting.{making_left}
+use Rattle.art_attempt.specs.Inserting.{apply_left}
 use Rattle.art_attempt.specs.Trying.{IsLater}
 use Rattle.art_make.proofs.Written.{few_words_left, some_words, writes_failures, writes_steps}
-use Rattle.art_make.specs.Making.{Fits, OnlyWrites, WritesAll, is_writing, most_steps}
-use Rattle.art_make.specs.declared.making.Making.{Making}
-use Rattle.art_make.specs.declared.making.Making.TheVariants.{Upgrading, Claiming, Filling, Writing, Committing, Releasing, ReleasingNode, GivingUp, Ended}
+use Rattle.art_make.specs.Apply.{Fits, OnlyWrites, WritesAll, is_writing, most_steps}
+use Rattle.art_make.specs.declared.apply.Apply.{Apply}
+use Rattle.art_make.specs.declared.apply.Apply.TheVariants.{Upgrading, Claiming, Filling, Writing, Committing, Releasing, ReleasingNode, GivingUp, Ended}
 use Rattle.art_plan.specs.declared.changes.Change.{Change}
 use Rattle.art_step.specs.declared.views.Sizes.{Sizes}
 use Rattle.art_step.specs.declared.views.View.{View}
@@ -31,7 +31,7 @@ each_turn left n a b few end = ⊎_elim
     (cases_Bool (left == 0))
 
 -- a making that has words to write holds cells
-pub writing_left : (left : ℕ) (m : Making) → is_writing m ≡ true → making_left left m ≡ (if left == 0 then 581 - most_steps m else left + 581)
+pub writing_left : (left : ℕ) (m : Apply) → is_writing m ≡ true → apply_left left m ≡ (if left == 0 then 581 - most_steps m else left + 581)
 writing_left left (Upgrading i) on = absurd (cc)
 writing_left left (Claiming b) on = absurd (cc)
 writing_left left (Filling b place) on = refl
@@ -43,14 +43,14 @@ writing_left left (GivingUp locked released e) on = absurd (cc)
 writing_left left (Ended r) on = absurd (cc)
 
 -- all words that are left are written, of which there is one, and the commit is next
-module _ (z : Sizes) (u v : View) (c : Change) (m m' : Making) (n : ℕ) (fits : Fits z c m u v) (on : is_writing m ≡ true) (all : WritesAll c m m' n) where
+module _ (z : Sizes) (u v : View) (c : Change) (m m' : Apply) (n : ℕ) (fits : Fits z c m u v) (on : is_writing m ≡ true) (all : WritesAll c m m' n) where
   pub some_written : 1 ≤ n
   some_written = let count = all.count in let some = some_words z u v c m fits on in omega (arith, count, some)
 
   pub then_commits : m' ≡ Committing
   then_commits = all.some some_written
 
-  pub written_less : (left : ℕ) → n + making_left (left - n) m' ≤ making_left left m
+  pub written_less : (left : ℕ) → n + apply_left (left - n) m' ≤ apply_left left m
   written_less left =
       let count = all.count in
       let few = few_words_left z u v c m fits on in

@@ -7,14 +7,14 @@ use Rattle.art_plan.specs.ChooseInsert.Needs.{needs_of}
 use Rattle.art_find.specs.declared.verdicts.Verdict.{Verdict}
 use Rattle.art_frame.specs.Stocks.{node_in, without_all}
 use Rattle.art_frame.specs.declared.stocks.Stock.{Stock}
-use Rattle.art_gather.specs.declared.supplying.Wants.{Wants}
-use Rattle.art_make.specs.Making.{linked}
+use Rattle.art_gather.specs.declared.reserve.Demand.{Demand}
+use Rattle.art_make.specs.Apply.{linked}
 use Rattle.art_plan.specs.declared.changes.Change.{Change}
 use Rattle.art_step.specs.declared.views.Sizes.{Sizes}
 
 -- what an insert wants in hand, by where its key stands
-abbrev pub wants_of : Sizes → Verdict → Wants
-wants_of z found = record { leaf = true; node = (needs_of found).node; sizes = z }
+abbrev pub demand_of : Sizes → Verdict → Demand
+demand_of z found = record { leaf = true; node = (needs_of found).node; sizes = z }
 
 -- whether the cell above is written too
 abbrev pub both_of : Verdict → Bool

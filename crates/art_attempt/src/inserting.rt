@@ -2,33 +2,33 @@
 ghost use Rattle.std.specs.Prelude.{◌≡◌, ◌≢◌, ℕ, ◌+◌, ◌-◌, ◌<◌, ◌≤◌, List, length, Some, None, true, false};
 ghost use Rattle.art_attempt.specs.Asking.{Answers};
 ghost use Rattle.art_attempt.specs.Inserting.{Fits, HasMade, HasPlace, HasSupplies, HasVouched, IsFinding, IsRoom};
-ghost use Rattle.art_attempt.specs.Inserting.{IsAnewBy, IsOverlapBy, asks, check_of, deed_at, ended_at, entered_by, entered_so, finding_asks, found_at, free_at, given_up, is_begun, is_free};
-ghost use Rattle.art_attempt.specs.Inserting.{making_asks, making_left, steps_left, supply_asks, vouching_asks};
-ghost use Rattle.art_attempt.specs.Rooms.{SameRow, wants_of};
+ghost use Rattle.art_attempt.specs.Inserting.{IsRestartBy, IsOverlapBy, asks, check_of, deed_at, ended_at, entered_by, entered_so, finding_asks, found_at, free_at, given_up, is_begun, is_free};
+ghost use Rattle.art_attempt.specs.Inserting.{apply_asks, apply_left, steps_left, supply_asks, vouching_asks};
+ghost use Rattle.art_attempt.specs.Rooms.{SameRow, demand_of};
 ghost use Rattle.art_attempt.specs.Trying.{HasSpent, StillTries};
-ghost use Rattle.art_attempt.specs.declared.inserting.Entered.TheVariants.{Anew as anew, Overlaps as overlaps};
+ghost use Rattle.art_attempt.specs.declared.inserting.Entered.TheVariants.{Restart as anew, Overlaps as overlaps};
 ghost use Rattle.art_attempt.specs.declared.inserting.Stage.TheVariants as stages;
 ghost use Rattle.art_find.specs.declared.verdicts.Verdict.TheVariants as verdicts;
 ghost use Rattle.art_frame.specs.Stocks.{HasStock};
-ghost use Rattle.art_gather.specs.Supplying.{HasAll};
+ghost use Rattle.art_gather.specs.Reserve.{HasAll};
 ghost use Rattle.art_gather.specs.Vouching.{ended_at as vouched_at};
 ghost use Rattle.art_gather.specs.declared.vouching.Vouched.TheVariants.{Unchanged as unchanged};
 ghost use Rattle.art_machine.specs.Acting.{Answers as ActionAnswers, goes_on, passed, steps_in, telling};
 ghost use Rattle.art_machine.specs.declared.actions.Action.{Action as ActionOf};
-ghost use Rattle.art_make.specs.Making.{brings, ended_at as made_at, fault_of};
-ghost use Rattle.art_find.specs.Findings.{stand_at};
+ghost use Rattle.art_make.specs.Apply.{brings, ended_at as made_at, fault_of};
+ghost use Rattle.art_find.specs.Findings.{position_at};
 ghost use Rattle.art_step.specs.declared.faults.Changed.{Changed};
 ghost use Rattle.art_step.specs.declared.faults.UpgradeFault.TheVariants.{Changed as changed};
 ghost use Rattle.art_step.specs.declared.views.Sizes.{Sizes};
 ghost use Rattle.art_step.specs.declared.views.View.{View};
 
 use crate::Room;
-use crate::rooms::wants_of;
+use crate::rooms::demand_of;
 use art_cell::{Cell, Pool};
-use art_find::{Finding, Stand, Verdict, look};
-use art_gather::{Supplied, Supplying, Vouched, Vouching, read_cells};
+use art_find::{Finding, Position, Verdict, look};
+use art_gather::{Reserve, Reserved, Vouched, Vouching, read_cells};
 use art_machine::{Action, Answer, perform};
-use art_make::Making;
+use art_make::Apply;
 use art_plan::{needed, plan_insert};
 use art_step::{EpochSteps, Stamp, UpgradeFault};
 
@@ -46,7 +46,7 @@ pub enum Entered {
     /// A key begins the other.
     Overlaps,
     /// A version word was locked, obsolete or changed: it may be tried anew.
-    Anew,
+    Restart,
 }
 
 /// Where an attempt stands between two of its steps.
@@ -55,11 +55,11 @@ pub enum Stage {
     /// The place of the key is sought.
     Finding,
     /// Numbers come into the hand.
-    Supplying,
+    Reserve,
     /// What is still to be read is read, and the cells are checked.
     Vouching,
     /// The change is made.
-    Making,
+    Apply,
     Ended(Entered),
 }
 
@@ -69,10 +69,10 @@ pub struct Inserting {
     stage: Stage,
     finding: Finding,
     /// Where the key stands, once that is known.
-    stand: Stand,
-    supplying: Supplying,
+    position: Position,
+    reserve: Reserve,
     vouching: Vouching,
-    making: Making,
+    apply: Apply,
 }
 
 impl Inserting {
@@ -80,7 +80,7 @@ impl Inserting {
     ghost use Rattle.art_attempt.specs.Asking.{IsAllowed};
     ghost use Rattle.art_attempt.specs.Inserting.{EndsSo, asks_at};
     ghost use Rattle.art_attempt.specs.declared.rooms.Room.{Room as RoomOf};
-    ghost use Rattle.art_gather.specs.Supplying.{ended_at as supplied_at};
+    ghost use Rattle.art_gather.specs.Reserve.{ended_at as reserved_at};
     ghost use Rattle.art_step.specs.declared.deeds.Deed.{Deed};
 
     /// At its beginning.
@@ -93,10 +93,10 @@ impl Inserting {
         Inserting {
             stage: Stage::Finding,
             finding: Finding::new(),
-            stand: nowhere(),
-            supplying: Supplying::Ended(Supplied::Ready),
+            position: nowhere(),
+            reserve: Reserve::Ended(Reserved::Ready),
             vouching: Vouching::Ended(Vouched::Changed),
-            making: Making::Ended(Ok(())),
+            apply: Apply::Ended(Ok(())),
         }
     }
 
@@ -111,9 +111,9 @@ impl Inserting {
     {
         match self.stage {
             Stage::Finding => self.find_next(),
-            Stage::Supplying => self.supply_next(room),
+            Stage::Reserve => self.supply_next(room),
             Stage::Vouching => self.vouch_next(),
-            Stage::Making => self.make_next(room),
+            Stage::Apply => self.make_next(room),
             Stage::Ended(_) => None,
         }
     }
@@ -128,14 +128,14 @@ impl Inserting {
             Fits z u self.new room.new w }
         ensures left { (left : ℕ) → (is_free self.old ≡ true → 0 < left) →
             steps_left (left - steps_in answer) self.new < steps_left left self.old }
-        ensures anew { ended_at self.new ≡ Some anew → IsAnewBy self.old.stage self.new.making answer }
+        ensures anew { ended_at self.new ≡ Some anew → IsRestartBy self.old.stage self.new.apply answer }
         ensures overlaps { ended_at self.new ≡ Some overlaps → IsOverlapBy self.old answer }
     {
         match self.stage {
             Stage::Finding => self.find_told(room, answer),
-            Stage::Supplying => self.supply_told(room, answer),
+            Stage::Reserve => self.supply_told(room, answer),
             Stage::Vouching => self.vouch_told(room, answer),
-            Stage::Making => self.make_told(room, answer),
+            Stage::Apply => self.make_told(room, answer),
             Stage::Ended(_) => {}
         }
     }
@@ -156,15 +156,15 @@ impl Inserting {
         ensures free { result ≡ true → ended_at self.now ≡ None → (z : Sizes) (u v : View) (r : RoomOf) → Fits z u self.now r v →
             EndsSo z u r v }
     {
-        free_at(self.stage, &self.making)
+        free_at(self.stage, &self.apply)
     }
 
     /// The value that the key has, where the check that comes next settles that it is there.
     pub fn found(&self) -> u64
         ensures { result ≡ found_at self.now }
     {
-        match self.finding.stand() {
-            Some(stand) => stand.verdict.value().unwrap_or(0),
+        match self.finding.position() {
+            Some(position) => position.verdict.value().unwrap_or(0),
             None => 0,
         }
     }
@@ -184,14 +184,14 @@ impl Inserting {
     #[inline(always)]
     fn supply_next(&self, room: &Room) -> Option<Action>
         requires short { length room.now.row.key.items ≤ 64 }
-        ensures asks { result ≡ asks_at stages.Supplying self.now room.now }
+        ensures asks { result ≡ asks_at stages.Reserve self.now room.now }
         ensures allowed { (z : Sizes) (u v : View) (d : Deed) → HasSupplies z u self.now room.now v →
             IfSome result (IsAllowed z d room.now.change v) }
-        ensures going { (z : Sizes) (u v : View) → HasSupplies z u self.now room.now v → supplied_at self.now.supplying ≡ None →
+        ensures going { (z : Sizes) (u v : View) → HasSupplies z u self.now room.now v → reserved_at self.now.reserve ≡ None →
             (a : ActionOf) × (result ≡ Some a) }
     {
         let key = room.row.key.as_slice();
-        self.supplying.next(key, room.row.value, &room.stock)
+        self.reserve.next(key, room.row.value, &room.stock)
     }
 
     /// What comes next where the cells are vouched for.
@@ -203,19 +203,19 @@ impl Inserting {
         ensures going { (z : Sizes) (u v : View) (r : RoomOf) → HasVouched z u self.now r v → vouched_at self.now.vouching ≡ None →
             (a : ActionOf) × (result ≡ Some a) }
     {
-        self.vouching.next(&self.stand)
+        self.vouching.next(&self.position)
     }
 
     /// What comes next where the change is made.
     #[inline(always)]
     fn make_next(&self, room: &Room) -> Option<Action>
-        ensures asks { result ≡ asks_at stages.Making self.now room.now }
+        ensures asks { result ≡ asks_at stages.Apply self.now room.now }
         ensures allowed { (z : Sizes) (u v : View) (d : Deed) → HasMade z u self.now room.now v →
             IfSome result (IsAllowed z d room.now.change v) }
-        ensures going { (z : Sizes) (u v : View) → HasMade z u self.now room.now v → made_at self.now.making ≡ None →
+        ensures going { (z : Sizes) (u v : View) → HasMade z u self.now room.now v → made_at self.now.apply ≡ None →
             (a : ActionOf) × (result ≡ Some a) }
     {
-        self.making.next(&room.change)
+        self.apply.next(&room.change)
     }
 
     /// A cell was looked at on the way to the place of the key.
@@ -232,8 +232,8 @@ impl Inserting {
             finding_asks self.old.finding ≡ Some asked → ActionAnswers z (telling (deed_at self.old room.old)) asked answer v w →
             Fits z u self.new room.new w }
     {
-        match self.finding.stand() {
-            Some(stand) => self.settled(room, stand, answer),
+        match self.finding.position() {
+            Some(position) => self.settled(room, position, answer),
             None => self.read_on(room, answer),
         }
     }
@@ -242,7 +242,7 @@ impl Inserting {
     #[inline(always)]
     fn read_on(&mut self, room: &mut Room, answer: Answer)
         requires stage { self.old.stage ≡ stages.Finding }
-        requires nowhere { stand_at self.old.finding ≡ None }
+        requires nowhere { position_at self.old.finding ≡ None }
         requires told { (z : Sizes) × (u : View) × (v : View) × (w : View) × (asked : ActionOf) × IsRoom z room.old ×
             IsFinding z u self.old room.old v × (finding_asks self.old.finding ≡ Some asked) ×
             ActionAnswers z (telling (deed_at self.old room.old)) asked answer v w }
@@ -256,9 +256,9 @@ impl Inserting {
     {
         let on = self
             .finding
-            .told(&mut room.desk, room.row.key.as_slice(), answer);
+            .told(&mut room.read_set, room.row.key.as_slice(), answer);
         if !on {
-            self.stage = Stage::Ended(Entered::Anew);
+            self.stage = Stage::Ended(Entered::Restart);
         }
     }
 
@@ -278,9 +278,9 @@ impl Inserting {
             Fits (S.sizes steps.old) u self.new room.new (S.view steps.new) }
     {
         let key = room.row.key.as_slice();
-        let on = self.finding.descend(steps, &mut room.desk, key, left);
+        let on = self.finding.descend(steps, &mut room.read_set, key, left);
         if !on {
-            self.stage = Stage::Ended(Entered::Anew);
+            self.stage = Stage::Ended(Entered::Restart);
         }
     }
 
@@ -304,28 +304,28 @@ impl Inserting {
         let Stage::Finding = self.stage else {
             return;
         };
-        let Some(stand) = self.finding.stand() else {
+        let Some(position) = self.finding.position() else {
             return;
         };
-        if *left <= 1 || matches!(stand.verdict, Verdict::Overlaps) {
+        if *left <= 1 || matches!(position.verdict, Verdict::Overlaps) {
             return;
         }
-        let Some(answer) = look(steps, check_of(&stand)) else {
+        let Some(answer) = look(steps, check_of(&position)) else {
             return;
         };
         *left -= 1;
-        self.settled(room, stand, answer);
+        self.settled(room, position, answer);
     }
 
     /// Writes words of the leaf that comes, as long as more than one is to be written and more than one turn is left.
     #[inline(always)]
     fn pack_all<S: EpochSteps>(&mut self, steps: &mut S, room: &Room, left: &mut u32)
-        requires stage { self.old.stage ≡ stages.Supplying }
+        requires stage { self.old.stage ≡ stages.Reserve }
         requires short { length room.now.row.key.items ≤ 64 }
         requires turn { 0 < left.old }
         requires fits { (u : View) × Fits (S.sizes steps.old) u self.old room.now (S.view steps.old) }
         ensures only { S.only steps.old steps.new }
-        ensures stage { self.new.stage ≡ stages.Supplying }
+        ensures stage { self.new.stage ≡ stages.Reserve }
         ensures turn { 0 < left.new }
         ensures less { left.new ≤ left.old }
         ensures made { (S.view steps.new).steps + left.new ≡ (S.view steps.old).steps + left.old }
@@ -333,13 +333,13 @@ impl Inserting {
             Fits (S.sizes steps.old) u self.new room.now (S.view steps.new) }
     {
         let key = room.row.key.as_slice();
-        self.supplying
+        self.reserve
             .pack_on(steps, key, room.row.value, &room.stock, left);
     }
 
     /// Makes steps until all is in hand, or a pool gave no number, as long as more than one turn is left.
     fn supply_all<S: EpochSteps>(&mut self, steps: &mut S, room: &mut Room, left: &mut u32)
-        requires stage { self.old.stage ≡ stages.Supplying }
+        requires stage { self.old.stage ≡ stages.Reserve }
         requires short { length room.old.row.key.items ≤ 64 }
         requires turn { 0 < left.old }
         requires fits { (u : View) × Fits (S.sizes steps.old) u self.old room.old (S.view steps.old) }
@@ -355,7 +355,7 @@ impl Inserting {
     {
         while *left > 1 {
             match self.stage {
-                Stage::Supplying => {}
+                Stage::Reserve => {}
                 _ => return,
             }
             self.pack_all(steps, room, left);
@@ -363,7 +363,7 @@ impl Inserting {
                 return;
             }
             let key = room.row.key.as_slice();
-            let Some(asked) = self.supplying.next(key, room.row.value, &room.stock) else {
+            let Some(asked) = self.reserve.next(key, room.row.value, &room.stock) else {
                 return;
             };
             let answer = perform(steps, asked, None);
@@ -386,13 +386,13 @@ impl Inserting {
         ensures fits { (u : View) → Fits (S.sizes steps.old) u self.old room.old (S.view steps.old) →
             Fits (S.sizes steps.old) u self.new room.new (S.view steps.new) }
     {
-        let both = needed(&self.stand.verdict).above;
+        let both = needed(&self.position.verdict).above;
         read_cells(
             steps,
             &mut self.vouching,
-            &self.stand,
+            &self.position,
             both,
-            &mut room.desk,
+            &mut room.read_set,
             left,
         );
     }
@@ -417,7 +417,7 @@ impl Inserting {
                 Stage::Vouching => {}
                 _ => return,
             }
-            let Some(asked) = self.vouching.next(&self.stand) else {
+            let Some(asked) = self.vouching.next(&self.position) else {
                 return;
             };
             let Some(answer) = look(steps, asked) else {
@@ -430,7 +430,7 @@ impl Inserting {
 
     /// Makes all steps that are left of the change; where no cell is locked yet, as long as more than one turn is left.
     fn make_all<S: EpochSteps>(&mut self, steps: &mut S, room: &mut Room, left: &mut u32)
-        requires stage { self.old.stage ≡ stages.Making }
+        requires stage { self.old.stage ≡ stages.Apply }
         requires turn { 0 < left.old }
         requires admitted { S.admits steps.old room.old.row.key.items }
         requires fits { (u : View) × Fits (S.sizes steps.old) u self.old room.old (S.view steps.old) }
@@ -446,18 +446,18 @@ impl Inserting {
     {
         loop {
             match self.stage {
-                Stage::Making => {}
+                Stage::Apply => {}
                 _ => return,
             }
-            if self.making.is_writing() {
-                let written = self.making.write_on(steps, &room.change);
+            if self.apply.is_writing() {
+                let written = self.apply.write_on(steps, &room.change);
                 *left = left.saturating_sub(written);
                 continue;
             }
-            let Some(asked) = self.making.next(&room.change) else {
+            let Some(asked) = self.apply.next(&room.change) else {
                 return;
             };
-            if is_begun(&self.making) && *left <= 1 {
+            if is_begun(&self.apply) && *left <= 1 {
                 return;
             }
             let answer = perform(steps, asked, Some(&room.change.effects));
@@ -491,34 +491,34 @@ impl Inserting {
                 self.find_on(steps, room, left);
                 self.settle_on(steps, room, left);
             }
-            Stage::Supplying => self.supply_all(steps, room, left),
+            Stage::Reserve => self.supply_all(steps, room, left),
             Stage::Vouching => {
                 self.read_all(steps, room, left);
                 self.vouch_all(steps, room, left);
             }
-            Stage::Making => self.make_all(steps, room, left),
+            Stage::Apply => self.make_all(steps, room, left),
             Stage::Ended(_) => {}
         }
     }
 
     /// The place of the key was checked.
-    fn settled(&mut self, room: &mut Room, stand: Stand, answer: Answer)
+    fn settled(&mut self, room: &mut Room, position: Position, answer: Answer)
         requires { (z : Sizes) × (u : View) × (v : View) × (w : View) × IsRoom z room.old × IsFinding z u self.old room.old v ×
-            (stand_at self.old.finding ≡ Some stand) × ActionAnswers z (telling (deed_at self.old room.old)) (check_of stand) answer v w }
+            (position_at self.old.finding ≡ Some position) × ActionAnswers z (telling (deed_at self.old room.old)) (check_of position) answer v w }
         ensures row { SameRow room.old room.new }
         ensures anew { ended_at self.new ≡ Some anew → goes_on answer ≡ false }
-        ensures overlaps { ended_at self.new ≡ Some overlaps → (stand.verdict ≡ verdicts.Overlaps) × (passed answer ≡ true) }
+        ensures overlaps { ended_at self.new ≡ Some overlaps → (position.verdict ≡ verdicts.Overlaps) × (passed answer ≡ true) }
         ensures free { is_free self.new ≡ true }
         ensures fits { (z : Sizes) (u v w : View) → IsRoom z room.old → IsFinding z u self.old room.old v →
-            stand_at self.old.finding ≡ Some stand → ActionAnswers z (telling (deed_at self.old room.old)) (check_of stand) answer v w →
+            position_at self.old.finding ≡ Some position → ActionAnswers z (telling (deed_at self.old room.old)) (check_of position) answer v w →
             Fits z u self.new room.new w }
     {
         if !answer.passed() {
-            self.stage = Stage::Ended(Entered::Anew);
+            self.stage = Stage::Ended(Entered::Restart);
             return;
         }
-        self.stand = stand;
-        match entered_by(&stand.verdict) {
+        self.position = position;
+        match entered_by(&position.verdict) {
             Some(entered) => self.stage = Stage::Ended(entered),
             None => self.supply(room),
         }
@@ -532,11 +532,11 @@ impl Inserting {
         ensures not_overlaps { ended_at self.new ≢ Some overlaps }
         ensures free { is_free self.new ≡ true }
         ensures fits { (z : Sizes) (u v : View) → IsRoom z room.old → StillTries u v → HasSpent z u 1201 v →
-            HasPlace z u self.old.stand room.old v → HasStock z room.old.row.key.items room.old.row.value v room.old.stock →
+            HasPlace z u self.old.position room.old v → HasStock z room.old.row.key.items room.old.row.value v room.old.stock →
             Fits z u self.new room.new v }
     {
-        let wants = wants_of(room.sizes, &self.stand.verdict);
-        self.supplying = Supplying::new(&wants, &mut room.stock);
+        let demand = demand_of(room.sizes, &self.position.verdict);
+        self.reserve = Reserve::new(&demand, &mut room.stock);
         self.supply_on(room);
     }
 
@@ -552,8 +552,8 @@ impl Inserting {
         ensures fits { (z : Sizes) (u v w : View) (asked : ActionOf) → IsRoom z room.old → HasSupplies z u self.old room.old v →
             supply_asks self.old room.old ≡ Some asked → ActionAnswers z None asked answer v w → Fits z u self.new room.new w }
     {
-        let wants = wants_of(room.sizes, &self.stand.verdict);
-        self.supplying.told(&wants, &mut room.stock, answer);
+        let demand = demand_of(room.sizes, &self.position.verdict);
+        self.reserve.told(&demand, &mut room.stock, answer);
         self.supply_on(room);
     }
 
@@ -565,10 +565,10 @@ impl Inserting {
         ensures free { is_free self.new ≡ true }
         ensures fits { (z : Sizes) (u v : View) → IsRoom z room.now → HasSupplies z u self.old room.now v → Fits z u self.new room.now v }
     {
-        match self.supplying.ended() {
-            None => self.stage = Stage::Supplying,
-            Some(Supplied::Ready) => self.vouch(room),
-            Some(Supplied::Full(pool)) => self.stage = Stage::Ended(Entered::Full(pool)),
+        match self.reserve.ended() {
+            None => self.stage = Stage::Reserve,
+            Some(Reserved::Ready) => self.vouch(room),
+            Some(Reserved::Full(pool)) => self.stage = Stage::Ended(Entered::Full(pool)),
         }
     }
 
@@ -578,10 +578,10 @@ impl Inserting {
         ensures not_overlaps { ended_at self.new ≢ Some overlaps }
         ensures free { is_free self.new ≡ true }
         ensures fits { (z : Sizes) (u v : View) → IsRoom z room.now → HasSupplies z u self.old room.now v →
-            HasAll (wants_of z self.old.stand.verdict) room.now.stock → Fits z u self.new room.now v }
+            HasAll (demand_of z self.old.position.verdict) room.now.stock → Fits z u self.new room.now v }
     {
-        let both = needed(&self.stand.verdict).above;
-        self.vouching = Vouching::new(&self.stand, both, &room.desk);
+        let both = needed(&self.position.verdict).above;
+        self.vouching = Vouching::new(&self.position, both, &room.read_set);
         self.stage = Stage::Vouching;
     }
 
@@ -599,12 +599,12 @@ impl Inserting {
             vouching_asks self.old ≡ Some asked → ActionAnswers z (telling (deed_at self.old room.old)) asked answer v w →
             Fits z u self.new room.new w }
     {
-        let both = needed(&self.stand.verdict).above;
+        let both = needed(&self.position.verdict).above;
         self.vouching
-            .told(&self.stand, both, &mut room.desk, answer);
+            .told(&self.position, both, &mut room.read_set, answer);
         match self.vouching.ended() {
             None => {}
-            Some(Vouched::Changed) => self.stage = Stage::Ended(Entered::Anew),
+            Some(Vouched::Changed) => self.stage = Stage::Ended(Entered::Restart),
             Some(Vouched::Unchanged) => self.plan(room),
         }
     }
@@ -624,38 +624,38 @@ impl Inserting {
             unreachable!();
         };
         room.row.number = leaf;
-        let made = room.number_for(needed(&self.stand.verdict).node);
+        let made = room.number_for(needed(&self.position.verdict).node);
         let Room {
             row,
-            desk,
+            read_set,
             bodies,
             change,
             ..
         } = room;
-        plan_insert(change, bodies, &self.stand, desk, row, made);
-        self.making = Making::new(&room.change);
-        self.stage = Stage::Making;
+        plan_insert(change, bodies, &self.position, read_set, row, made);
+        self.apply = Apply::new(&room.change);
+        self.stage = Stage::Apply;
     }
 
     /// A step of the change was made.
     #[inline(always)]
     fn make_told(&mut self, room: &mut Room, answer: Answer)
-        requires stage { self.old.stage ≡ stages.Making }
+        requires stage { self.old.stage ≡ stages.Apply }
         requires told { (z : Sizes) × (u : View) × (v : View) × (w : View) × (asked : ActionOf) × IsRoom z room.old ×
-            HasMade z u self.old room.old v × (making_asks self.old room.old ≡ Some asked) ×
+            HasMade z u self.old room.old v × (apply_asks self.old room.old ≡ Some asked) ×
             ActionAnswers z (brings room.old.change) asked answer v w }
         ensures row { SameRow room.old room.new }
         ensures fits { (z : Sizes) (u v w : View) (asked : ActionOf) → IsRoom z room.old → HasMade z u self.old room.old v →
-            making_asks self.old room.old ≡ Some asked → ActionAnswers z (brings room.old.change) asked answer v w →
+            apply_asks self.old room.old ≡ Some asked → ActionAnswers z (brings room.old.change) asked answer v w →
             Fits z u self.new room.new w }
-        ensures left { (left : ℕ) → (is_begun self.old.making ≡ true → 0 < left) →
-            steps_left (left - steps_in answer) self.new < making_left left self.old.making }
-        ensures anew { ended_at self.new ≡ Some anew → (e : Changed) × (fault_of self.new.making ≡ Some (changed e)) }
+        ensures left { (left : ℕ) → (is_begun self.old.apply ≡ true → 0 < left) →
+            steps_left (left - steps_in answer) self.new < apply_left left self.old.apply }
+        ensures anew { ended_at self.new ≡ Some anew → (e : Changed) × (fault_of self.new.apply ≡ Some (changed e)) }
         ensures not_overlaps { ended_at self.new ≢ Some overlaps }
         ensures over { is_free self.new ≡ true → ended_at self.new ≢ None }
     {
-        self.making.told(&room.change, answer);
-        match self.making.ended() {
+        self.apply.told(&room.change, answer);
+        match self.apply.ended() {
             None => {}
             Some(made) => self.made(room, made),
         }
@@ -666,9 +666,9 @@ impl Inserting {
     fn made(&mut self, room: &mut Room, made: Result<(), UpgradeFault>)
         ensures row { SameRow room.old room.new }
         ensures stage { self.new.stage ≡ stages.Ended (entered_so made) }
-        ensures making { self.new.making ≡ self.old.making }
+        ensures apply { self.new.apply ≡ self.old.apply }
         ensures fits { (z : Sizes) (u v : View) → IsRoom z room.old → HasMade z u self.old room.old v →
-            made_at self.old.making ≡ Some made → Fits z u self.new room.new v }
+            made_at self.old.apply ≡ Some made → Fits z u self.new room.new v }
     {
         match made {
             Ok(()) => {
@@ -681,8 +681,8 @@ impl Inserting {
 }
 
 /// A stand that says nothing.
-pub fn nowhere() -> Stand {
-    Stand {
+pub fn nowhere() -> Position {
+    Position {
         stamp: Stamp {
             cell: Cell::Anchor,
             version: 0,
@@ -698,38 +698,42 @@ pub fn nowhere() -> Stand {
 fn finding_asked(finding: &Finding) -> Option<Action>
     ensures { result ≡ finding_asks finding.now }
 {
-    match finding.stand() {
-        Some(stand) => Some(check_of(&stand)),
+    match finding.position() {
+        Some(position) => Some(check_of(&position)),
         None => finding.next(),
     }
 }
 
 /// A leaf with the key is there: a check tells its value; of any other place a check tells nothing.
-fn check_of(stand: &Stand) -> Action
-    ensures { result ≡ check_of stand.now }
+fn check_of(position: &Position) -> Action
+    ensures { result ≡ check_of position.now }
 {
-    match stand.verdict {
-        Verdict::Found(_, _) => Action::Settle { stamp: stand.stamp },
-        _ => Action::Check { stamp: stand.stamp },
+    match position.verdict {
+        Verdict::Found { .. } => Action::Settle {
+            stamp: position.stamp,
+        },
+        _ => Action::Check {
+            stamp: position.stamp,
+        },
     }
 }
 
 /// Whether nothing is held at this stage.
-fn free_at(stage: Stage, making: &Making) -> bool
-    ensures { result ≡ free_at stage making.now }
+fn free_at(stage: Stage, apply: &Apply) -> bool
+    ensures { result ≡ free_at stage apply.now }
 {
     match stage {
-        Stage::Making => is_begun(making),
-        Stage::Finding | Stage::Supplying | Stage::Vouching | Stage::Ended(_) => true,
+        Stage::Apply => is_begun(apply),
+        Stage::Finding | Stage::Reserve | Stage::Vouching | Stage::Ended(_) => true,
     }
 }
 
 /// Whether no cell was locked yet.
-pub fn is_begun(making: &Making) -> bool
-    ensures { result ≡ is_begun making.now }
+pub fn is_begun(apply: &Apply) -> bool
+    ensures { result ≡ is_begun apply.now }
 {
-    match *making {
-        Making::Upgrading(index) => index == 0,
+    match *apply {
+        Apply::Upgrading(index) => index == 0,
         _ => false,
     }
 }
@@ -739,7 +743,7 @@ fn entered_by(verdict: &Verdict) -> Option<Entered>
     ensures { result ≡ entered_by verdict.now }
 {
     match *verdict {
-        Verdict::Found(_, value) => Some(Entered::Present(value)),
+        Verdict::Found { value, .. } => Some(Entered::Present(value)),
         Verdict::Overlaps => Some(Entered::Overlaps),
         _ => None,
     }
@@ -750,7 +754,7 @@ fn given_up(fault: UpgradeFault) -> Entered
     ensures { result ≡ given_up fault }
 {
     match fault {
-        UpgradeFault::Changed(_) => Entered::Anew,
+        UpgradeFault::Changed(_) => Entered::Restart,
         UpgradeFault::Exhausted(cell) => Entered::Exhausted(cell),
     }
 }

@@ -10,7 +10,7 @@
 //! # The way
 //!
 //! ```text
-//! Finding ──► the check of the place ──► Supplying ──► Vouching ──► plan ──► Making ──► New
+//! Finding ──► the check of the place ──► Reserve ──► Vouching ──► plan ──► Making ──► New
 //!    │              │  Present, Overlaps      │ Full        │                      │ Exhausted
 //!    └── Anew ◄─────┴─────────────────────────┴─────────────┘                      └──► Anew
 //! ```
@@ -19,7 +19,7 @@
 //! nothing, since the key's absence is the business of the commit alone; but where it fails, the words that were read may
 //! never have stood in one tree, and the attempt has failed.
 //!
-//! An attempt that meets a version word that is locked, obsolete or another ends as `Anew`. The numbers that it took stay in
+//! An attempt that meets a version word that is locked, obsolete or another ends as `Restart`. The numbers that it took stay in
 //! hand, and the leaf keeps its words, so that the next attempt uses them again.
 //!
 //! # What stands beside it

@@ -1,16 +1,16 @@
 //! What stands beside an attempt of an insert or a removal.
 ghost use Rattle.std.specs.Prelude.{◌≡◌, ◌≤◌, Some, length};
-ghost use Rattle.art_attempt.specs.Rooms.{number_for, spent_by, wants_of};
+ghost use Rattle.art_attempt.specs.Rooms.{number_for, spent_by, demand_of};
 ghost use Rattle.art_attempt.specs.Trying.{IsKey};
 ghost use Rattle.art_plan.specs.Changes.{leaf_linked, node_made};
 ghost use Rattle.art_frame.specs.Stocks.{AreIn, first_hints, nothing};
-ghost use Rattle.art_make.specs.Making.{linked};
+ghost use Rattle.art_make.specs.Apply.{linked};
 
 use arrayvec::ArrayVec;
 use art_cell::{Body, Layout, Reads, Writes};
-use art_find::{Desk, Verdict};
+use art_find::{ReadSet, Verdict};
 use art_frame::Stock;
-use art_gather::Wants;
+use art_gather::Demand;
 use art_key::{Bound, Key};
 use art_machine::Effects;
 use art_plan::{Bodies, Change, NewLeaf, OldLeaf, needed};
@@ -26,7 +26,7 @@ pub struct Room {
     pub gone: OldLeaf,
     pub sizes: Sizes,
     pub stock: Stock,
-    pub desk: Desk,
+    pub read_set: ReadSet,
     /// The words that were read of a lower node.
     pub lower: Reads,
     pub bodies: Bodies,
@@ -46,7 +46,7 @@ impl Room {
             gone: no_leaf(),
             sizes: *sizes,
             stock: Stock::new(own, sizes),
-            desk: Desk::new(),
+            read_set: ReadSet::new(),
             lower: Reads::new(),
             bodies: Bodies::new(),
             lower_body: no_body(),
@@ -149,10 +149,10 @@ fn no_change() -> Change {
 }
 
 /// What an insert wants in hand, by where its key stands.
-pub(crate) fn wants_of(sizes: Sizes, verdict: &Verdict) -> Wants
-    ensures { result ≡ wants_of sizes verdict.now }
+pub(crate) fn demand_of(sizes: Sizes, verdict: &Verdict) -> Demand
+    ensures { result ≡ demand_of sizes verdict.now }
 {
-    Wants {
+    Demand {
         leaf: true,
         node: needed(verdict).node,
         sizes,

@@ -14,7 +14,7 @@ use Rattle.art_change.specs.declared.writes.Write.{Write}
 use Rattle.art_epoch.specs.Limbo.{places_of}
 use Rattle.art_epoch.specs.declared.limbo.Place.{Place}
 use Rattle.art_key.specs.declared.bounds.Bound.{Bound}
-use Rattle.art_seek.specs.ArtLook.declared.trails.Trail.{Trail}
+use Rattle.art_seek.specs.ArtLook.declared.path_buffers.PathBuffer.{PathBuffer}
 use Rattle.art_seek.proofs.GivenUp.{busy_is_free}
 use Rattle.art_seek.specs.Seeks as seeks
 use Rattle.art_seek.specs.Walks.{aim_of}
@@ -115,7 +115,7 @@ write_why z u c m v why (Look lo hi) turns on = absurd on
 -- ---- a seek
 
 module _ (z : Sizes) (u : View) (c : Caller) (m n : Seek) (v : View) (walk : n.walk ≡ m.walk) (turns_are : n.turns ≡ seeks.turns_used m) (left : seeks.steps_left n ≤ seeks.steps_left m)
-    (fits : (z : Sizes) (k : List ℕ) (hi : Bound) (u v : View) (t : Trail) → seeks.Fits z k hi u m t v → seeks.Fits z k hi u n t v) where
+    (fits : (z : Sizes) (k : List ℕ) (hi : Bound) (u v : View) (t : PathBuffer) → seeks.Fits z k hi u m t v → seeks.Fits z k hi u n t v) where
   pub seek_given : (w : Wish) (given turns : ℕ) → c.call ≡ call.Seek m → IsCalling z w given turns u c v → GoesOnUsed z w given turns u (record c { call = call.Seek n }) v
   seek_given w given turns is calling = by w (subst (λ (k : Call). GoesOn z w turns u c k v) is calling.goes_on) (subst (λ (k : Call). v.steps + left_in c k ≤ u.steps + given + 1000) is calling.few) calling.within
     where
@@ -134,7 +134,7 @@ module _ (z : Sizes) (u : View) (c : Caller) (m n : Seek) (v : View) (walk : n.w
                 bound_is = on.bound_is;
                 short = on.short;
                 caller = record { few = on.caller.few; sizes = on.caller.sizes; ready = on.caller.ready };
-                fits = fits z k.items c.hi u v c.trail on.fits;
+                fits = fits z k.items c.hi u v c.path_buffer on.fits;
               };
               few = omega (arith, few, left);
               within = omega (arith, less, within);
@@ -156,7 +156,7 @@ module _ (z : Sizes) (u : View) (c : Caller) (m n : Seek) (v : View) (walk : n.w
                   bound_is = o.bound_is;
                   short = o.short;
                   caller = record { few = o.caller.few; sizes = o.caller.sizes; ready = o.caller.ready };
-                  fits = fits z lo.items hi u v c.trail o.fits;
+                  fits = fits z lo.items hi u v c.path_buffer o.fits;
                 },
                 on.1,
               );
@@ -178,13 +178,13 @@ write_free z u c m n v refuses fits (Get k) turns on = absurd on
 write_free z u c m n v refuses fits (Look lo hi) turns on = absurd on
 
 pub seek_free : (z : Sizes) (u : View) (c : Caller) (m n : Seek) (v : View) → seeks.WillBeBusy n
-    → ((z : Sizes) (k : List ℕ) (hi : Bound) (u v : View) (t : Trail) → seeks.Fits z k hi u m t v → seeks.Fits z k hi u n t v)
+    → ((z : Sizes) (k : List ℕ) (hi : Bound) (u v : View) (t : PathBuffer) → seeks.Fits z k hi u m t v → seeks.Fits z k hi u n t v)
     → (w : Wish) (turns : ℕ) → GoesOn z w turns u c (call.Seek m) v → HoldsOrTold u v → ⊥
 seek_free z u c m n v busy fits (Get k) turns on =
-    let free = busy_is_free z k.items c.hi u n c.trail v busy (fits z k.items c.hi u v c.trail on.fits) in
+    let free = busy_is_free z k.items c.hi u n c.path_buffer v busy (fits z k.items c.hi u v c.path_buffer on.fits) in
     free_untold u v free.0 free.1
 seek_free z u c m n v busy fits (Look lo hi) turns on =
-    let free = busy_is_free z lo.items hi u n c.trail v busy (fits z lo.items hi u v c.trail on.0.fits) in
+    let free = busy_is_free z lo.items hi u n c.path_buffer v busy (fits z lo.items hi u v c.path_buffer on.0.fits) in
     free_untold u v free.0 free.1
 seek_free z u c m n v busy fits (Insert k value) turns on = absurd on
 seek_free z u c m n v busy fits (Remove k) turns on = absurd on

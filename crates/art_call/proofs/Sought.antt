@@ -16,7 +16,7 @@ use Rattle.art_seek.proofs.ArtLook.Driven.{sees_after, sees_within}
 use Rattle.art_seek.specs.ArtLook.Driven.{LookEnds}
 use Rattle.art_seek.specs.ArtLook.Seen.{bound_at, look_done}
 use Rattle.art_seek.specs.ArtLook.declared.looks.Seen.{Seen as SeenOf}
-use Rattle.art_seek.specs.ArtLook.declared.trails.Trail.{Trail}
+use Rattle.art_seek.specs.ArtLook.declared.path_buffers.PathBuffer.{PathBuffer}
 use Rattle.art_seek.proofs.Answered.{ended_closed, ended_end, ended_sought, look_ends, look_told, seen_busy}
 use Rattle.art_seek.proofs.Ends.{key_not_seen, range_not_absent, range_not_found}
 use Rattle.art_seek.specs.Seeks as seeks
@@ -35,7 +35,7 @@ use Rattle.art_tree.specs.declared.bounds.Bound.TheVariants.{To}
 
 -- ---- a get
 
-module _ (k : ArrayVec ℕ) (hi : Bound) (t : Trail) (left : ℕ) where
+module _ (k : ArrayVec ℕ) (hi : Bound) (t : PathBuffer) (left : ℕ) where
   key_told : (w : Walk) (o : Outcome) (s : Option SeenOf) → aim_of w ≡ aim.Key → IsEnd w left o → told_of o k.items hi t w ≡ told_by (Get k) (of_seek o s)
   key_told w (Found value) s is ends = refl
   key_told w Absent s is ends = refl
@@ -59,7 +59,7 @@ module _ (k : ArrayVec ℕ) (hi : Bound) (t : Trail) (left : ℕ) where
 
 -- ---- a look
 
-module _ (k : List ℕ) (hi : Bound) (t : Trail) (left : ℕ) where
+module _ (k : List ℕ) (hi : Bound) (t : PathBuffer) (left : ℕ) where
   seen_ends : (s : Option SeenOf) → of_seek Seen s ≡ of_look s
   seen_ends (Some seen) = refl
   seen_ends None = refl
@@ -95,7 +95,7 @@ some_seen (Some x) seen is = cc
 some_seen None seen is = cc
 
 -- only one that has ended so has seen something
-has_seen : (o : Outcome) (w : Walk) (k : List ℕ) (hi : Bound) (t : Trail) (seen : SeenOf) → seen_by (Some o) w k hi t ≡ Some seen → o ≡ Seen
+has_seen : (o : Outcome) (w : Walk) (k : List ℕ) (hi : Bound) (t : PathBuffer) (seen : SeenOf) → seen_by (Some o) w k hi t ≡ Some seen → o ≡ Seen
 has_seen Seen w k hi t seen is = refl
 has_seen (Found value) w k hi t seen is = cc
 has_seen Absent w k hi t seen is = cc
@@ -108,12 +108,12 @@ none_seen None is = refl
 -- ---- what a client sees
 
 module _ (z : Sizes) (u : View) (c : Caller) (m : Seek) (v : View) (o : Outcome) (ended : seeks.ended_at m ≡ Some o)
-    (k : ArrayVec ℕ) (hi : Bound) (turns : ℕ) (short : length k.items ≤ 64) (may : IsCaller z u c) (turns_are : m.turns ≡ turns) (fits : Fits z k.items hi u m c.trail v) where
-  sought : HasSought k.items hi u m c.trail o v
-  sought = ended_sought z k.items hi u m c.trail v o ended fits short
+    (k : ArrayVec ℕ) (hi : Bound) (turns : ℕ) (short : length k.items ≤ 64) (may : IsCaller z u c) (turns_are : m.turns ≡ turns) (fits : Fits z k.items hi u m c.path_buffer v) where
+  sought : HasSought k.items hi u m c.path_buffer o v
+  sought = ended_sought z k.items hi u m c.path_buffer v o ended fits short
 
   ends : IsEnd m.walk m.left o
-  ends = ended_end z k.items hi u m c.trail v o ended fits
+  ends = ended_end z k.items hi u m c.path_buffer v o ended fits
 
   caller : IsCaller z v c
   caller =
@@ -164,49 +164,49 @@ module _ (z : Sizes) (u : View) (c : Caller) (m : Seek) (v : View) (o : Outcome)
   -- a get, whatever a look would have seen
   pub get_called : (given : ℕ) (s : Option SeenOf) → aim_of m.walk ≡ aim.Key → v.steps ≤ u.steps + given + 1000 → HasCalled z (Get k) given turns m.restarts u c (of_seek o s) v
   get_called given s aim few = record {
-    may = key_may k hi c.trail m.left m.walk o s aim ends;
-    tells = subst (SeesEvent u v) (key_told k hi c.trail m.left m.walk o s aim ends) sought.tells;
+    may = key_may k hi c.path_buffer m.left m.walk o s aim ends;
+    tells = subst (SeesEvent u v) (key_told k hi c.path_buffer m.left m.walk o s aim ends) sought.tells;
     caller = caller;
     range = tt;
     ground = tt;
     failed = failed;
-    busy = λ told. let busy = key_busy k hi c.trail m.left m.walk o s aim ends told in record { used = used busy; counts = counts busy };
+    busy = λ told. let busy = key_busy k hi c.path_buffer m.left m.walk o s aim ends told in record { used = used busy; counts = counts busy };
     left = tt;
     steps = few;
   }
 
   -- a look
   pub look_called : (given : ℕ) → aim_of m.walk ≡ aim.Range → c.call ≡ call.Seek m → ((i : ℕ) → get_or k.items i 0 < 256) → is_before (bound_at (To k.items)) hi ≡ true
-      → v.steps ≤ u.steps + given + 1000 → HasCalled z (Look k hi) given turns m.restarts u c (of_look (seen_by (Some o) m.walk k.items hi c.trail)) v
+      → v.steps ≤ u.steps + given + 1000 → HasCalled z (Look k hi) given turns m.restarts u c (of_look (seen_by (Some o) m.walk k.items hi c.path_buffer)) v
   look_called given aim called small before few =
-      let s = seen_by (Some o) m.walk k.items hi c.trail in
-      let closed = ended_closed z k.items hi u m c.trail v o ended fits in
-      let looks = look_ends k.items hi c.trail m.left z closed.over.walking.opened closed.before m.restarts m.walk o aim ends closed.over.walking.walk in
+      let s = seen_by (Some o) m.walk k.items hi c.path_buffer in
+      let closed = ended_closed z k.items hi u m c.path_buffer v o ended fits in
+      let looks = look_ends k.items hi c.path_buffer m.left z closed.over.walking.opened closed.before m.restarts m.walk o aim ends closed.over.walking.walk in
       record {
         may = seen_may k hi s;
-        tells = subst (SeesEvent u v) (look_told k.items hi c.trail m.left m.walk o aim ends ∙ sym (seen_tells k hi s)) sought.tells;
+        tells = subst (SeesEvent u v) (look_told k.items hi c.path_buffer m.left m.walk o aim ends ∙ sym (seen_tells k hi s)) sought.tells;
         caller = caller;
         range = seen_range k hi z closed.over.walking.opened closed.before s small before looks;
         ground = tt;
         failed = failed;
-        busy = λ told. let busy = seen_busy k.items hi c.trail m.left m.walk o aim ends (none_seen s told) in record { used = used busy; counts = counts busy };
+        busy = λ told. let busy = seen_busy k.items hi c.path_buffer m.left m.walk o aim ends (none_seen s told) in record { used = used busy; counts = counts busy };
         left = leaves called aim (of_look s)
-            (λ seen told. has_seen o m.walk k.items hi c.trail seen (some_seen s seen told))
-            (λ told. seen_busy k.items hi c.trail m.left m.walk o aim ends (none_seen s told));
+            (λ seen told. has_seen o m.walk k.items hi c.path_buffer seen (some_seen s seen told))
+            (λ told. seen_busy k.items hi c.path_buffer m.left m.walk o aim ends (none_seen s told));
         steps = few;
       }
 
 module _ (z : Sizes) (u : View) (c : Caller) (m : Seek) (v : View) (o : Outcome) (ended : seeks.ended_at m ≡ Some o) where
   pub seek_called : (w : Wish) (given turns : ℕ) → c.call ≡ call.Seek m → ((i : ℕ) → get_or c.key.items i 0 < 256) → GoesOn z w turns u c (call.Seek m) v → v.steps ≤ u.steps + given + 1000
-      → HasCalled z w given turns m.restarts u c (of_seek o (seeks.seen_at m c.key.items c.hi c.trail)) v
+      → HasCalled z w given turns m.restarts u c (of_seek o (seeks.seen_at m c.key.items c.hi c.path_buffer)) v
   seek_called (Get k) given turns called small on few =
-      get_called z u c m v o ended k c.hi turns on.short on.caller on.turns_are on.fits given (seeks.seen_at m c.key.items c.hi c.trail) on.aim_is few
+      get_called z u c m v o ended k c.hi turns on.short on.caller on.turns_are on.fits given (seeks.seen_at m c.key.items c.hi c.path_buffer) on.aim_is few
   seek_called (Look lo hi) given turns called small on few =
       let n = on.0 in
       let e = ends z u c m v o ended lo hi turns n.short n.caller n.turns_are n.fits in
-      let same : of_seek o (seeks.seen_at m c.key.items c.hi c.trail) ≡ of_look (seen_by (Some o) m.walk lo.items hi c.trail) =
-      ap (λ (k : ArrayVec ℕ). of_seek o (seeks.seen_at m k.items c.hi c.trail)) n.key_is ∙ (ap (λ (b : Bound). of_seek o (seeks.seen_at m lo.items b c.trail)) n.bound_is
-      ∙ (ap (λ (p : Option Outcome). of_seek o (seen_by p m.walk lo.items hi c.trail)) ended ∙ range_ends lo.items hi c.trail m.left m.walk o n.aim_is e)) in
+      let same : of_seek o (seeks.seen_at m c.key.items c.hi c.path_buffer) ≡ of_look (seen_by (Some o) m.walk lo.items hi c.path_buffer) =
+      ap (λ (k : ArrayVec ℕ). of_seek o (seeks.seen_at m k.items c.hi c.path_buffer)) n.key_is ∙ (ap (λ (b : Bound). of_seek o (seeks.seen_at m lo.items b c.path_buffer)) n.bound_is
+      ∙ (ap (λ (p : Option Outcome). of_seek o (seen_by p m.walk lo.items hi c.path_buffer)) ended ∙ range_ends lo.items hi c.path_buffer m.left m.walk o n.aim_is e)) in
       let bytes = subst (λ (k : ArrayVec ℕ). (i : ℕ) → get_or k.items i 0 < 256) n.key_is small in
       subst (λ (x : OutcomeOf). HasCalled z (Look lo hi) given turns m.restarts u c x v) (sym same)
       (look_called z u c m v o ended lo hi turns n.short n.caller n.turns_are n.fits given n.aim_is called bytes on.1 few)

@@ -106,7 +106,7 @@ module _ (z : Sizes) (so : Cells → Type 0) (d : Deed) (a : Action) (r : Answer
 any_of : (d : Deed) (v w : View) (s : Stepped) → SeesEvent v w (told_by s d) → MakesAny (is_told s) v w
 any_of d v w stepped.Frame sees = sees
 any_of d v w stepped.Walked sees = sees
-any_of d v w stepped.Anew sees = sees
+any_of d v w stepped.Restart sees = sees
 any_of d v w stepped.Told sees = (d, sees)
 
 pub sought_any : (z : Sizes) (so : Cells → Type 0) (d : Deed) (a : Action) (r : Answer) (v w : View) (s : Stepped) → s ≡ stepped_by a r → MaySeek z so v a → Answers z (telling d) a r v w → MakesAny (is_told s) v w

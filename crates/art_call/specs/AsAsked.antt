@@ -13,7 +13,7 @@ use Rattle.art_key.specs.declared.bounds.Bound.{Bound}
 use Rattle.art_machine.specs.Acting.{Answers, telling}
 use Rattle.art_machine.specs.declared.actions.Action.{Action}
 use Rattle.art_machine.specs.declared.actions.Answer.{Answer}
-use Rattle.art_seek.specs.ArtLook.declared.trails.Trail.{Trail}
+use Rattle.art_seek.specs.ArtLook.declared.path_buffers.PathBuffer.{PathBuffer}
 use Rattle.art_seek.specs.Seeks as seeks
 use Rattle.art_seek.specs.Walks.{deed_at}
 use Rattle.art_seek.specs.declared.seeks.Seek.{Seek}
@@ -52,8 +52,8 @@ pub record WriteGoes (z : Sizes) (v : View) (m : Write) (r : Room) (ps : List Pl
 
 -- ---- of a seek
 
--- what the seek m asked for at the view v, with the trail t, was made, and it is n then, at the view w, with the trail s
-pub record SeekMakes (z : Sizes) (k : List ℕ) (hi : Bound) (v : View) (m : Seek) (t : Trail) (w : View) (n : Seek) (s : Trail)
+-- what the seek m asked for at the view v, with the path buffer t, was made, and it is n then, at the view w, with the path buffer s
+pub record SeekMakes (z : Sizes) (k : List ℕ) (hi : Bound) (v : View) (m : Seek) (t : PathBuffer) (w : View) (n : Seek) (s : PathBuffer)
     : Type 0 where
   pub asked : Action
   pub answer : Answer
@@ -65,7 +65,7 @@ pub record SeekMakes (z : Sizes) (k : List ℕ) (hi : Bound) (v : View) (m : See
 
 abbrev pub GoesBy : Sizes → View → Caller → Call → View → Caller → Call → Type 0
 GoesBy z v c (call.Write m) w d (call.Write n) = WriteGoes z v m c.room (places_of c.limbo) w n d.room (places_of d.limbo)
-GoesBy z v c (call.Seek m) w d (call.Seek n) = SeekMakes z c.key.items c.hi v m c.trail w n d.trail
+GoesBy z v c (call.Seek m) w d (call.Seek n) = SeekMakes z c.key.items c.hi v m c.path_buffer w n d.path_buffer
 GoesBy z v c m w d n = ⊥
 
 -- from the caller c, at the view v, to the caller d, at the view w, its call made the step that it asked for

@@ -35,6 +35,7 @@ use Rattle.art_seek.specs.declared.walks.Aim.{Aim}
 use Rattle.art_seek.specs.declared.walks.Aim.TheVariants as aim
 use Rattle.art_step.specs.Deeds.{bound_of}
 use Rattle.art_step.specs.Events.{SeesEvent}
+use Rattle.art_step.specs.Histories.{AreApart}
 use Rattle.art_step.specs.declared.deeds.Act.TheVariants as act
 use Rattle.art_step.specs.declared.deeds.Deed.{Deed}
 use Rattle.art_step.specs.declared.deeds.Deed.TheVariants.{Done}
@@ -124,7 +125,7 @@ pub record IsSeeking (z : Sizes) (a : Aim) (k : ArrayVec ℕ) (hi : Bound) (turn
   pub bound_is : c.hi ≡ hi
   pub short : length k.items ≤ 64
   pub caller : IsCaller z u c
-  pub fits : seeks.Fits z k.items hi u m c.trail v
+  pub fits : seeks.Fits z k.items hi u m c.path_buffer v
 
 -- a get has no upper end
 abbrev pub GoesOn : Sizes → Wish → ℕ → View → Caller → Call → View → Type 0
@@ -159,17 +160,30 @@ stays_apart (call.Seek m) = ⊤
 abbrev pub StaysApart : Caller → Type 0
 StaysApart c = stays_apart c.call
 
+-- from the view v to the view w a check of its write, if it is one, succeeded, by whose notes its key begins that of a row, or that of a
+-- row begins it
+abbrev pub finds_overlap : Sizes → Caller → Call → View → View → Type 0
+finds_overlap z c (call.Write m) v w = writes.FindsOverlap z (key_of m.job c.room).items v w
+finds_overlap z c (call.Seek m) v w = ⊥
+
+abbrev pub FindsOverlap : Sizes → Caller → View → View → Type 0
+FindsOverlap z c v w = finds_overlap z c c.call v w
+
+-- none does so: no admitted key begins another, or there is no such check
+abbrev pub NoneOverlaps : (List ℕ → Type 0) → Sizes → Caller → View → View → Type 0
+NoneOverlaps A z c v w = AreApart A ⊎ (FindsOverlap z c v w → ⊥)
+
 -- ---- how it ends
 
 -- how it ended, if it has; a seek with what it has seen
 abbrev pub outcome_of : Caller → Call → Option Outcome
 outcome_of c (call.Write m) = option_map of_write (writes.ended_at m)
-outcome_of c (call.Seek m) = option_map (λ o. of_seek o (seeks.seen_at m c.key.items c.hi c.trail)) (seeks.ended_at m)
+outcome_of c (call.Seek m) = option_map (λ o. of_seek o (seeks.seen_at m c.key.items c.hi c.path_buffer)) (seeks.ended_at m)
 
 abbrev pub outcome_at : Caller → Option Outcome
 outcome_at c = outcome_of c c.call
 
--- how often it began anew
+-- how often it restarted
 abbrev pub restarts_of : Call → ℕ
 restarts_of (call.Write m) = m.restarts
 restarts_of (call.Seek m) = m.restarts
@@ -205,7 +219,7 @@ abbrev pub SeesRange : Sizes → Wish → Outcome → Type 0
 SeesRange z (Look lo hi) (outcome.Seen seen) = IsRangeSeen z lo hi seen
 SeesRange z w o = ⊤
 
--- the ground of its outcome: what waited in limbo when it began, and how its machine ended, which began anew so often
+-- the ground of its outcome: what waited in limbo when it began, and how its machine ended, which restarted so often
 pub record IsGround (z : Sizes) (j : Job) (turns restarts : ℕ) (u : View) (c : Caller) (o : Outcome) (v : View) : Type 0 where
   pub waited : List Place
   pub write : WriteOutcome
@@ -250,7 +264,7 @@ pub record HasUsed (z : Sizes) (w : Wish) (turns : ℕ) (u v : View) : Type 0 wh
   pub used : writes.UsedTurns z u turns v
   pub counts : CountsTurns w turns u v
 
--- it began anew so often; the pass may call again, and made the event of the outcome, or none
+-- it restarted so often; the pass may call again, and made the event of the outcome, or none
 pub record HasCalled (z : Sizes) (w : Wish) (given turns restarts : ℕ) (u : View) (c : Caller) (o : Outcome) (v : View) : Type 0 where
   pub may : may_end w o ≡ true
   pub tells : SeesEvent u v (told_by w o)

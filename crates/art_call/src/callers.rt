@@ -17,7 +17,7 @@ use art_change::art_attempt::Room;
 use art_change::{Job, Write};
 use art_epoch::Limbo;
 use art_key::{Bound, Key};
-use art_seek::art_look::Trail;
+use art_seek::art_look::PathBuffer;
 use art_seek::{Aim, Seek};
 use art_step::Sizes;
 
@@ -38,7 +38,7 @@ pub struct Caller {
     pub(crate) key: Key,
     /// The upper end of a look.
     pub(crate) hi: Bound,
-    pub(crate) trail: Trail,
+    pub(crate) path_buffer: PathBuffer,
     pub(crate) call: Call,
 }
 
@@ -54,7 +54,7 @@ impl Caller {
             limbo: Limbo::new(),
             key: Key::new(),
             hi: Bound::End,
-            trail: Trail::new(),
+            path_buffer: PathBuffer::new(),
             call: Call::Seek(Seek::new(Aim::Key, 0)),
         }
     }
@@ -113,13 +113,13 @@ impl Caller {
             Call::Write(write) => Some(of_write(write.ended()?)),
             Call::Seek(seek) => {
                 let key = self.key.as_slice();
-                let seen = seek.seen(key, &self.hi, &self.trail);
+                let seen = seek.seen(key, &self.hi, &self.path_buffer);
                 Some(of_seek(seek.ended()?, seen))
             }
         }
     }
 
-    /// How often it began anew.
+    /// How often it restarted.
     pub fn restarts(&self) -> u64
         ensures { result ≡ restarts_in self.now }
     {

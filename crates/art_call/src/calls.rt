@@ -87,7 +87,7 @@ impl Caller {
             &mut seek,
             key.as_slice(),
             &Bound::End,
-            &mut self.trail,
+            &mut self.path_buffer,
         );
         seek.ended().unwrap()
     }
@@ -109,8 +109,8 @@ impl Caller {
     {
         let bytes = lo.as_slice();
         let mut seek = Seek::new(Aim::Range, turns);
-        finish_seek(steps, &mut seek, bytes, hi, &mut self.trail);
+        finish_seek(steps, &mut seek, bytes, hi, &mut self.path_buffer);
         self.call = Call::Seek(seek);
-        seek.seen(bytes, hi, &self.trail)
+        seek.seen(bytes, hi, &self.path_buffer)
     }
 }

@@ -1,7 +1,7 @@
 //! Makes the steps of a call.
 ghost use Rattle.std.specs.Prelude.{◌≡◌, ◌≢◌, ℕ, ◌+◌, ◌≤◌, IfSome, IfNone, List, Some, true};
 ghost use Rattle.art_call.specs.AsAsked.{GoesAsAsked, WriteGoes};
-ghost use Rattle.art_call.specs.Calls.{HasCalled, IsAdmitted, IsCalling, Refuses, StaysApart, Wish, is_refusal, outcome_at, restarts_in, steps_left};
+ghost use Rattle.art_call.specs.Calls.{HasCalled, IsAdmitted, IsCalling, NoneOverlaps, Refuses, StaysApart, Wish, is_refusal, outcome_at, restarts_in, steps_left};
 ghost use Rattle.art_call.specs.Made.{MakesStep, is_told, tells};
 ghost use Rattle.art_call.specs.declared.outcomes.Outcome.{Outcome as OutcomeOf};
 ghost use Rattle.art_call.specs.declared.outcomes.Outcome.TheVariants.{Overlaps as overlaps};
@@ -15,7 +15,7 @@ ghost use Rattle.art_epoch.specs.declared.limbo.Place.{Place};
 ghost use Rattle.art_change.specs.ArtPlan.declared.changes.Change.{Change};
 ghost use Rattle.art_machine.specs.Acting.{Answers, telling};
 ghost use Rattle.art_machine.specs.declared.actions.Answer.{Answer as AnswerOf};
-ghost use Rattle.art_seek.specs.ArtLook.declared.trails.Trail.{Trail as Trailed};
+ghost use Rattle.art_seek.specs.ArtLook.declared.path_buffers.PathBuffer.{PathBuffer as PathBufferOf};
 ghost use Rattle.art_seek.specs.Asking.{MaySeek, stepped_by};
 ghost use Rattle.art_seek.specs.Walks.{Settles};
 ghost use Rattle.art_seek.specs.declared.walks.Walk.{Walk as WalkOf};
@@ -75,7 +75,7 @@ fn is_told(stepped: Sought) -> bool
 
 /// The step that a seek made.
 fn made_by_seek(made: art_seek::Made) -> Made
-    ensures { (z : Sizes) (d : Deed) (walk : WalkOf) (k : List ℕ) (t : Trailed) (answer : AnswerOf) (v w : View) →
+    ensures { (z : Sizes) (d : Deed) (walk : WalkOf) (k : List ℕ) (t : PathBufferOf) (answer : AnswerOf) (v w : View) →
         made.stepped ≡ stepped_by made.action answer → MaySeek z (Settles walk k t) v made.action →
         Answers z (telling d) made.action answer v w → w.steps ≡ v.steps + 1 → MakesStep z v w result }
 {
@@ -104,7 +104,8 @@ fn step_of_write<S: EpochSteps>(
     ensures turns { write.new.turns ≡ write.old.turns }
     ensures key { SameKey write.old.job room.old room.new }
     ensures refuses { writes.WillRefuse write.old → writes.WillRefuse write.new }
-    ensures apart { AreApart (S.admits steps.old) → IsApart write.old → IsApart write.new }
+    ensures apart { writes.NoneOverlaps (S.admits steps.old) (S.sizes steps.old) (key_of write.old.job room.old).items
+        (S.view steps.old) (S.view steps.new) → IsApart write.old → IsApart write.new }
     ensures left { (S.view steps.new).steps + writes.steps_left write.new room.new (places_of limbo.new) ≤
         (S.view steps.old).steps + writes.steps_left write.old room.old (places_of limbo.old) }
     ensures fits { (u : View) (ps : List Place) →
@@ -132,7 +133,8 @@ impl Caller {
         ensures asked { IfSome result (λ made. GoesAsAsked (S.sizes steps.old) (S.view steps.old) self.old (S.view steps.new) self.new) }
         ensures none { IfNone result ((S.view steps.new ≡ S.view steps.old) × ((o : OutcomeOf) × (outcome_at self.new ≡ Some o))) }
         ensures refuses { Refuses self.old → Refuses self.new }
-        ensures apart { AreApart (S.admits steps.old) → StaysApart self.old → StaysApart self.new }
+        ensures apart { NoneOverlaps (S.admits steps.old) (S.sizes steps.old) self.old (S.view steps.old) (S.view steps.new) →
+            StaysApart self.old → StaysApart self.new }
         ensures left { (S.view steps.new).steps + steps_left self.new ≤ (S.view steps.old).steps + steps_left self.old }
         ensures calling { (w : Wish) (given turns : ℕ) (u : View) →
             IsCalling (S.sizes steps.old) w given turns u self.old (S.view steps.old) →
@@ -143,7 +145,7 @@ impl Caller {
             limbo,
             key,
             hi,
-            trail,
+            path_buffer,
             call,
             ..
         } = self;
@@ -153,7 +155,7 @@ impl Caller {
                 if seek.ended().is_some() {
                     return None;
                 }
-                let made = step_seek(steps, seek, key.as_slice(), hi, trail);
+                let made = step_seek(steps, seek, key.as_slice(), hi, path_buffer);
                 Some(made_by_seek(made))
             }
         }
@@ -191,13 +193,13 @@ impl Caller {
             limbo,
             key,
             hi,
-            trail,
+            path_buffer,
             call,
             ..
         } = self;
         match call {
             Call::Write(write) => finish_write(steps, write, room, limbo),
-            Call::Seek(seek) => finish_seek(steps, seek, key.as_slice(), hi, trail),
+            Call::Seek(seek) => finish_seek(steps, seek, key.as_slice(), hi, path_buffer),
         }
     }
 }

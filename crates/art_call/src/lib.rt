@@ -3,7 +3,7 @@
 //! # What a pass keeps
 //!
 //! Beside the table a pass keeps what its calls need: the room of its writes, the numbers that it unlinked and has not given back, the
-//! key or both ends of what is looked for, and the trail of a look. A `Caller` has all of it, made once; no call takes memory, and
+//! key or both ends of what is looked for, and the path buffer of a look. A `Caller` has all of it, made once; no call takes memory, and
 //! none moves it.
 //!
 //! # The way

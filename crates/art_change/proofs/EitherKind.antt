@@ -56,25 +56,25 @@ use Rattle.art_step.specs.declared.views.View.{View}
 entered_stage : (s : InsertStage) (e : Entered) → inserts.entered_at s ≡ Some e → s ≡ insert.Ended e
 entered_stage (insert.Ended a) e is = ap insert.Ended (same_Some {A = Entered} a e is)
 entered_stage insert.Finding e is = cc
-entered_stage insert.Supplying e is = cc
+entered_stage insert.Reserve e is = cc
 entered_stage insert.Vouching e is = cc
-entered_stage insert.Making e is = cc
+entered_stage insert.Apply e is = cc
 
 erased_stage : (s : EraseStage) (e : Erased) → erases.erased_at s ≡ Some e → s ≡ erase.Ended e
 erased_stage (erase.Ended a) e is = ap erase.Ended (same_Some {A = Erased} a e is)
 erased_stage erase.Finding e is = cc
-erased_stage (erase.Supplying layout) e is = cc
+erased_stage (erase.Reserve layout) e is = cc
 erased_stage (erase.Reading q) e is = cc
 erased_stage erase.Vouching e is = cc
 erased_stage erase.Lowering e is = cc
-erased_stage erase.Making e is = cc
+erased_stage erase.Apply e is = cc
 
 -- nothing was told
 abbrev pub IsRefusal : Tried → Type 0
 IsRefusal (tried.Full pool) = ⊤
 IsRefusal (tried.Exhausted c) = ⊤
 IsRefusal tried.Overlaps = ⊤
-IsRefusal tried.Anew = ⊤
+IsRefusal tried.Restart = ⊤
 IsRefusal e = ⊥
 
 module _ (z : Sizes) (u : View) (r : Room) (v : View) where
@@ -84,19 +84,19 @@ module _ (z : Sizes) (u : View) (r : Room) (v : View) where
   erase_so : erases.EndsSo z u r v → EndsSo z u Remove r v
   erase_so so = record { still = so.still; spent = so.spent; has = so.has }
 
-  insert_ends : (m : Insertion) (e : Entered) → inserts.EndFits z u m.stand r e v → InsertEnds z u m r (of_entered e) v
+  insert_ends : (m : Insertion) (e : Entered) → inserts.EndFits z u m.position r e v → InsertEnds z u m r (of_entered e) v
   insert_ends m entered.New fits = fits
   insert_ends m (entered.Present stands) fits = fits
   insert_ends m (entered.Full pool) fits = (insert_so fits.0, fits.1)
   insert_ends m (entered.Exhausted c) fits = (insert_so fits.0, fits.1)
   insert_ends m entered.Overlaps fits = (insert_so fits.0, fits.1)
-  insert_ends m entered.Anew fits = (insert_so fits.0, fits.1)
+  insert_ends m entered.Restart fits = (insert_so fits.0, fits.1)
 
-  erase_ends : (m : Erasure) (e : Erased) → erases.EndFits z u m.stand m.way m.lowering r e v → EraseEnds z u m r (of_erased e) v
+  erase_ends : (m : Erasure) (e : Erased) → erases.EndFits z u m.position m.way m.lowering r e v → EraseEnds z u m r (of_erased e) v
   erase_ends m (erased.Gone value) fits = fits
   erase_ends m erased.Absent fits = fits
   erase_ends m (erased.Exhausted c) fits = (erase_so fits.0, fits.1)
-  erase_ends m erased.Anew fits = (erase_so fits.0, fits.1)
+  erase_ends m erased.Restart fits = (erase_so fits.0, fits.1)
 
   pub ends_as : (j : Job) (t : Trying) (e : Tried) → Fits z u j t r v → ended_at t ≡ Some e → EndFits z u j t r e v
   ends_as Insert (Inserting m) e fits is =
@@ -120,7 +120,7 @@ module _ (z : Sizes) (u : View) (r : Room) (v : View) where
   insert_refused m (tried.Full pool) none fits = fits.0
   insert_refused m (tried.Exhausted c) none fits = fits.0
   insert_refused m tried.Overlaps none fits = fits.0
-  insert_refused m tried.Anew none fits = fits.0
+  insert_refused m tried.Restart none fits = fits.0
 
   erase_refused : (m : Erasure) (e : Tried) → IsRefusal e → EraseEnds z u m r e v → EndsSo z u Remove r v
   erase_refused m tried.New none fits = absurd none
@@ -130,7 +130,7 @@ module _ (z : Sizes) (u : View) (r : Room) (v : View) where
   erase_refused m (tried.Full pool) none fits = absurd fits
   erase_refused m (tried.Exhausted c) none fits = fits.0
   erase_refused m tried.Overlaps none fits = absurd fits
-  erase_refused m tried.Anew none fits = fits.0
+  erase_refused m tried.Restart none fits = fits.0
 
   pub refused_so : (j : Job) (t : Trying) (e : Tried) → IsRefusal e → EndFits z u j t r e v → EndsSo z u j r v
   refused_so Insert (Inserting m) e none fits = insert_refused m e none fits
@@ -139,7 +139,7 @@ module _ (z : Sizes) (u : View) (r : Room) (v : View) where
   refused_so Remove (Inserting m) e none fits = absurd fits
 
   -- a failure more, where it is tried anew
-  pub anew_failed : (j : Job) (t : Trying) → EndFits z u j t r tried.Anew v → u.failures < v.failures
+  pub anew_failed : (j : Job) (t : Trying) → EndFits z u j t r tried.Restart v → u.failures < v.failures
   anew_failed Insert (Inserting m) fits = fits.1
   anew_failed Remove (Erasing m) fits = fits.1
   anew_failed Insert (Erasing m) fits = absurd fits
@@ -257,25 +257,25 @@ module _ (z : Sizes) (u b : View) (base : StillTries u b) where
 
 -- ---- it is tried anew
 
-anew_entered : (e : Entered) → of_entered e ≡ tried.Anew → e ≡ entered.Anew
-anew_entered entered.Anew is = refl
+anew_entered : (e : Entered) → of_entered e ≡ tried.Restart → e ≡ entered.Restart
+anew_entered entered.Restart is = refl
 anew_entered entered.New is = cc
 anew_entered (entered.Present stands) is = cc
 anew_entered (entered.Full pool) is = cc
 anew_entered (entered.Exhausted c) is = cc
 anew_entered entered.Overlaps is = cc
 
-anew_erased : (e : Erased) → of_erased e ≡ tried.Anew → e ≡ erased.Anew
-anew_erased erased.Anew is = refl
+anew_erased : (e : Erased) → of_erased e ≡ tried.Restart → e ≡ erased.Restart
+anew_erased erased.Restart is = refl
 anew_erased (erased.Gone value) is = cc
 anew_erased erased.Absent is = cc
 anew_erased (erased.Exhausted c) is = cc
 
-pub insert_anew : (m : Insertion) → ended_at (Inserting m) ≡ Some tried.Anew → inserts.ended_at m ≡ Some entered.Anew
-insert_anew m is = let k = map_some of_entered (inserts.ended_at m) tried.Anew is in k.1 ∙ ap (λ (e : Entered). Some e) (anew_entered k.0 k.2)
+pub insert_anew : (m : Insertion) → ended_at (Inserting m) ≡ Some tried.Restart → inserts.ended_at m ≡ Some entered.Restart
+insert_anew m is = let k = map_some of_entered (inserts.ended_at m) tried.Restart is in k.1 ∙ ap (λ (e : Entered). Some e) (anew_entered k.0 k.2)
 
-pub erase_anew : (m : Erasure) → ended_at (Erasing m) ≡ Some tried.Anew → erases.ended_at m ≡ Some erased.Anew
-erase_anew m is = let k = map_some of_erased (erases.ended_at m) tried.Anew is in k.1 ∙ ap (λ (e : Erased). Some e) (anew_erased k.0 k.2)
+pub erase_anew : (m : Erasure) → ended_at (Erasing m) ≡ Some tried.Restart → erases.ended_at m ≡ Some erased.Restart
+erase_anew m is = let k = map_some of_erased (erases.ended_at m) tried.Restart is in k.1 ∙ ap (λ (e : Erased). Some e) (anew_erased k.0 k.2)
 
 -- ---- how many steps are left
 
@@ -285,21 +285,21 @@ left_entered left (entered.Present stands) = refl
 left_entered left (entered.Full pool) = refl
 left_entered left (entered.Exhausted c) = refl
 left_entered left entered.Overlaps = refl
-left_entered left entered.Anew = refl
+left_entered left entered.Restart = refl
 
 left_erased : (left : ℕ) (e : Erased) → erases.ended_left left e ≡ ended_left left (of_erased e)
 left_erased left (erased.Gone value) = refl
 left_erased left erased.Absent = refl
 left_erased left (erased.Exhausted c) = refl
-left_erased left erased.Anew = refl
+left_erased left erased.Restart = refl
 
 pub ended_steps : (left : ℕ) (t : Trying) (e : Tried) → ended_at t ≡ Some e → steps_left left t ≡ ended_left left e
 ended_steps left (Inserting m) e is =
     let k = map_some of_entered (inserts.ended_at m) e is in
-    ap (λ (s : InsertStage). inserts.left_at left s m.making) (entered_stage m.stage k.0 k.1) ∙ (left_entered left k.0 ∙ ap (ended_left left) k.2)
+    ap (λ (s : InsertStage). inserts.left_at left s m.apply) (entered_stage m.stage k.0 k.1) ∙ (left_entered left k.0 ∙ ap (ended_left left) k.2)
 ended_steps left (Erasing m) e is =
     let k = map_some of_erased (erases.ended_at m) e is in
-    ap (λ (s : EraseStage). erases.left_at left s m.making) (erased_stage m.stage k.0 k.1) ∙ (left_erased left k.0 ∙ ap (ended_left left) k.2)
+    ap (λ (s : EraseStage). erases.left_at left s m.apply) (erased_stage m.stage k.0 k.1) ∙ (left_erased left k.0 ∙ ap (ended_left left) k.2)
 
 -- ---- each step
 

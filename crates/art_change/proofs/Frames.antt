@@ -140,7 +140,7 @@ module _ (z : Sizes) (u : View) (j : Job) (t : Trying) (r : Room) (left : ℕ) (
   tried_ends (tried.Full pool) o fits is = subst Ends (same_Some {A = Outcome} (or_busy left (Full pool)) o is) (or_busy_ends (Full pool) (so (tried.Full pool) tt fits) fits)
   tried_ends (tried.Exhausted c) o fits is = subst Ends (same_Some {A = Outcome} (Exhausted c) o is) fits
   tried_ends tried.Overlaps o fits is = subst Ends (same_Some {A = Outcome} (or_busy left Overlaps) o is) (or_busy_ends Overlaps (so tried.Overlaps tt fits) fits)
-  tried_ends tried.Anew o fits is = cc
+  tried_ends tried.Restart o fits is = cc
 
   -- it is tried anew
   pub anew_ends : (e : Tried) → EndFits z u j t r e v → outcome_of left e ≡ None → EndsSo z u j r v × (u.failures < v.failures)
@@ -151,10 +151,10 @@ module _ (z : Sizes) (u : View) (j : Job) (t : Trying) (r : Room) (left : ℕ) (
   anew_ends (tried.Full pool) fits is = cc
   anew_ends (tried.Exhausted c) fits is = cc
   anew_ends tried.Overlaps fits is = cc
-  anew_ends tried.Anew fits is = (so tried.Anew tt fits, anew_failed z u r v j t fits)
+  anew_ends tried.Restart fits is = (so tried.Restart tt fits, anew_failed z u r v j t fits)
 
-pub none_anew : (left : ℕ) (e : Tried) → outcome_of left e ≡ None → e ≡ tried.Anew
-none_anew left tried.Anew is = refl
+pub none_anew : (left : ℕ) (e : Tried) → outcome_of left e ≡ None → e ≡ tried.Restart
+none_anew left tried.Restart is = refl
 none_anew left tried.New is = cc
 none_anew left (tried.Present stands) is = cc
 none_anew left (tried.Gone value) is = cc
@@ -203,4 +203,4 @@ anew_left left tried.Absent is = cc
 anew_left left (tried.Full pool) is = cc
 anew_left left (tried.Exhausted c) is = cc
 anew_left left tried.Overlaps is = cc
-anew_left left tried.Anew is = refl
+anew_left left tried.Restart is = refl

@@ -37,9 +37,9 @@ use Rattle.art_erase.specs.ArtFrame.declared.closings.Closing.{Closing}
 use Rattle.art_erase.specs.ArtFrame.declared.closings.Closing.TheVariants as closing
 use Rattle.art_erase.specs.ArtFrame.declared.stocks.Stock.{Stock}
 use Rattle.art_erase.proofs.ArtMake.Committing.{some_words}
-use Rattle.art_erase.specs.ArtMake.Making.{Fits as MakeFits, at_claim, at_fill, at_release, ended_at as make_ended, so_many}
-use Rattle.art_erase.specs.ArtMake.declared.making.Making.{Making}
-use Rattle.art_erase.specs.ArtMake.declared.making.Making.TheVariants.{Upgrading, Claiming, Filling, Writing, Committing, Releasing, ReleasingNode, GivingUp, Ended}
+use Rattle.art_erase.specs.ArtMake.Apply.{Fits as MakeFits, at_claim, at_fill, at_release, ended_at as make_ended, so_many}
+use Rattle.art_erase.specs.ArtMake.declared.apply.Apply.{Apply}
+use Rattle.art_erase.specs.ArtMake.declared.apply.Apply.TheVariants.{Upgrading, Claiming, Filling, Writing, Committing, Releasing, ReleasingNode, GivingUp, Ended}
 use Rattle.art_plan.specs.Changes.{filled_at, target_at, targets}
 use Rattle.art_plan.specs.Whole.{HoldsWhole, filled_ends, made_at}
 use Rattle.art_plan.specs.declared.changes.Change.{Change}
@@ -79,28 +79,28 @@ module _ (u : View) (c : Change) (to : ℕ) (ps : List Put) (filled : Bool → �
 
 module _ (z : Sizes) (c : Change) (u v : View) where
   -- the making of a change holds a cell from its first upgrade to its last release
-  making_holds : (m : Making) → MakeFits z c m u v → make_ended m ≡ None → is_begun m ≡ false → v.held ≢ []
-  making_holds (Upgrading i) fits on some =
+  apply_holds : (m : Apply) → MakeFits z c m u v → make_ended m ≡ None → is_begun m ≡ false → v.held ≢ []
+  apply_holds (Upgrading i) fits on some =
       let low = above_zero i some in
       holds_target u c i [] (so_many 0 0) v.held 0 fits.stage.1.holds low (let a = fits.stage.0 in omega (arith, a, low))
-  making_holds (Claiming b) fits on some = holds_target u c (targets c) [] (at_claim c b) v.held 0 fits.stage.1.holds fits.planned.some fits.planned.some
-  making_holds (Filling b place) fits on some = holds_target u c (targets c) [] (at_fill c b place) v.held 0 fits.stage.2.holds fits.planned.some fits.planned.some
-  making_holds (Writing j) fits on some = let k = fits.stage.1 in holds_target u c (targets c) _ (filled_ends c) v.held 0 k.holds fits.planned.some fits.planned.some
-  making_holds Committing fits on some = holds_target u c (targets c) c.puts.items (filled_ends c) v.held 0 fits.stage.holds fits.planned.some fits.planned.some
-  making_holds (Releasing i) fits on some = holds_target u c (targets c) c.puts.items (filled_ends c) v.held i fits.stage.1.holds fits.stage.0 fits.stage.0
-  making_holds (ReleasingNode false) fits on some =
+  apply_holds (Claiming b) fits on some = holds_target u c (targets c) [] (at_claim c b) v.held 0 fits.stage.1.holds fits.planned.some fits.planned.some
+  apply_holds (Filling b place) fits on some = holds_target u c (targets c) [] (at_fill c b place) v.held 0 fits.stage.2.holds fits.planned.some fits.planned.some
+  apply_holds (Writing j) fits on some = let k = fits.stage.1 in holds_target u c (targets c) _ (filled_ends c) v.held 0 k.holds fits.planned.some fits.planned.some
+  apply_holds Committing fits on some = holds_target u c (targets c) c.puts.items (filled_ends c) v.held 0 fits.stage.holds fits.planned.some fits.planned.some
+  apply_holds (Releasing i) fits on some = holds_target u c (targets c) c.puts.items (filled_ends c) v.held i fits.stage.1.holds fits.stage.0 fits.stage.0
+  apply_holds (ReleasingNode false) fits on some =
       let n = fits.stage.0 in
       holds_node u c (targets c) c.puts.items (at_release c false) v.held (targets c) false n.0 fits.stage.1.holds n.1
       (subst (λ (o : Option Node). 0 < filled_at c o) (sym n.1) (some_words n.0.layout))
-  making_holds (ReleasingNode true) fits on some =
+  apply_holds (ReleasingNode true) fits on some =
       let n = fits.stage.0 in
       holds_node u c (targets c) c.puts.items (at_release c true) v.held (targets c) true n.0 fits.stage.1.holds n.1
       (subst (λ (o : Option Node). 0 < filled_at c o) (sym n.1) (some_words n.0.layout))
-  making_holds (GivingUp locked released e) fits on some =
+  apply_holds (GivingUp locked released e) fits on some =
       let low = fits.stage.0 in
       let few = fits.stage.1 in
       holds_target u c locked [] (so_many 0 0) v.held released fits.stage.2.holds low (omega (arith, low, few))
-  making_holds (Ended r) fits on some = cc
+  apply_holds (Ended r) fits on some = cc
 
 no_end : {A B : Type 0} (f : A → B) (o : Option A) → option_map f o ≡ None → o ≡ None
 no_end f None is = refl
@@ -108,17 +108,17 @@ no_end f (Some x) is = cc
 
 -- an attempt that is not free holds one
 module _ (z : Sizes) (u : View) (r : Room) (v : View) where
-  insert_holds : (m : Insertion) (s : InsertStage) → inserts.StageFits z u s m r v → inserts.entered_at s ≡ None → inserts.free_at s m.making ≡ false → v.held ≢ []
-  insert_holds m insert.Making fits on free = making_holds z r.change fits.0.early v m.making fits.0.fits fits.1 free
+  insert_holds : (m : Insertion) (s : InsertStage) → inserts.StageFits z u s m r v → inserts.entered_at s ≡ None → inserts.free_at s m.apply ≡ false → v.held ≢ []
+  insert_holds m insert.Apply fits on free = apply_holds z r.change fits.0.early v m.apply fits.0.fits fits.1 free
   insert_holds m insert.Finding fits on free = cc
-  insert_holds m insert.Supplying fits on free = cc
+  insert_holds m insert.Reserve fits on free = cc
   insert_holds m insert.Vouching fits on free = cc
   insert_holds m (insert.Ended e) fits on free = cc
 
-  erase_holds : (m : Erasure) (s : EraseStage) → erases.StageFits z u s m r v → erases.erased_at s ≡ None → erases.free_at s m.making ≡ false → v.held ≢ []
-  erase_holds m erase.Making fits on free = making_holds z r.change fits.0.early v m.making fits.0.fits fits.1 free
+  erase_holds : (m : Erasure) (s : EraseStage) → erases.StageFits z u s m r v → erases.erased_at s ≡ None → erases.free_at s m.apply ≡ false → v.held ≢ []
+  erase_holds m erase.Apply fits on free = apply_holds z r.change fits.0.early v m.apply fits.0.fits fits.1 free
   erase_holds m erase.Finding fits on free = cc
-  erase_holds m (erase.Supplying layout) fits on free = cc
+  erase_holds m (erase.Reserve layout) fits on free = cc
   erase_holds m (erase.Reading q) fits on free = cc
   erase_holds m erase.Vouching fits on free = cc
   erase_holds m erase.Lowering fits on free = cc

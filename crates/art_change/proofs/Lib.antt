@@ -10,8 +10,10 @@ pub mod EitherKind
 pub mod FrameSteps
 mod Frames
 pub mod GivenUp
+mod Gone
 pub mod Newcomers
 pub mod Overlaps
 pub mod Ready
+mod Refused
 mod SameWrite
 mod Steps

@@ -12,7 +12,7 @@ use Rattle.art_erase.specs.ArtAttempt.declared.rooms.Room.{Room}
 use Rattle.art_change.specs.declared.tries.Job.{Job}
 use Rattle.art_change.specs.declared.tries.Job.TheVariants.{Insert, Remove}
 use Rattle.art_change.specs.declared.tries.Tried.{Tried}
-use Rattle.art_change.specs.declared.tries.Tried.TheVariants.{New, Present, Gone, Absent, Full, Exhausted, Overlaps, Anew}
+use Rattle.art_change.specs.declared.tries.Tried.TheVariants.{New, Present, Gone, Absent, Full, Exhausted, Overlaps, Restart}
 use Rattle.art_change.specs.declared.tries.Trying.{Trying}
 use Rattle.art_change.specs.declared.tries.Trying.TheVariants.{Inserting, Erasing}
 use Rattle.art_erase.specs.Erasing as erases
@@ -45,13 +45,13 @@ of_entered (entered.Present stands) = Present stands
 of_entered (entered.Full pool) = Full pool
 of_entered (entered.Exhausted c) = Exhausted c
 of_entered entered.Overlaps = Overlaps
-of_entered entered.Anew = Anew
+of_entered entered.Restart = Restart
 
 abbrev pub of_erased : Erased → Tried
 of_erased (erased.Gone value) = Gone value
 of_erased erased.Absent = Absent
 of_erased (erased.Exhausted c) = Exhausted c
-of_erased erased.Anew = Anew
+of_erased erased.Restart = Restart
 
 -- how it ended, if it has
 abbrev pub ended_at : Trying → Option Tried
@@ -123,18 +123,18 @@ pub record IsFirst (job : Job) (t : Trying) : Type 0 where
 abbrev pub InsertEnds : Sizes → View → Insertion → Room → Tried → View → Type 0
 InsertEnds z u m r New v = HasEntered z u r v
 InsertEnds z u m r (Present stands) v = IsPresent z u r stands v
-InsertEnds z u m r (Full pool) v = EndsSo z u Insert r v × IsFull z u m.stand r pool v
-InsertEnds z u m r (Exhausted c) v = EndsSo z u Insert r v × IsExhausted z u m.stand r c v
-InsertEnds z u m r Overlaps v = EndsSo z u Insert r v × IsOverlap z u m.stand r v
-InsertEnds z u m r Anew v = EndsSo z u Insert r v × (u.failures < v.failures)
+InsertEnds z u m r (Full pool) v = EndsSo z u Insert r v × IsFull z u m.position r pool v
+InsertEnds z u m r (Exhausted c) v = EndsSo z u Insert r v × IsExhausted z u m.position r c v
+InsertEnds z u m r Overlaps v = EndsSo z u Insert r v × IsOverlap z u m.position r v
+InsertEnds z u m r Restart v = EndsSo z u Insert r v × (u.failures < v.failures)
 InsertEnds z u m r e v = ⊥
 
 -- how a removal ended
 abbrev pub EraseEnds : Sizes → View → Erasure → Room → Tried → View → Type 0
-EraseEnds z u m r (Gone value) v = HasErased z u r value v
+EraseEnds z u m r (Gone value) v = HasErased z u m.position m.way r value v
 EraseEnds z u m r Absent v = IsAbsent z u r v
-EraseEnds z u m r (Exhausted c) v = EndsSo z u Remove r v × erases.IsExhausted z u m.stand m.way m.lowering r c v
-EraseEnds z u m r Anew v = EndsSo z u Remove r v × (u.failures < v.failures)
+EraseEnds z u m r (Exhausted c) v = EndsSo z u Remove r v × erases.IsExhausted z u m.position m.way m.lowering r c v
+EraseEnds z u m r Restart v = EndsSo z u Remove r v × (u.failures < v.failures)
 EraseEnds z u m r e v = ⊥
 
 abbrev pub EndFits : Sizes → View → Job → Trying → Room → Tried → View → Type 0
@@ -145,10 +145,10 @@ EndFits z u job t r e v = ⊥
 -- ---- why it is tried anew
 
 -- a version word was locked, obsolete or changed
-abbrev pub IsAnewBy : Trying → Trying → Answer → Type 0
-IsAnewBy (Inserting m) (Inserting next) answer = inserts.IsAnewBy m.stage next.making answer
-IsAnewBy (Erasing m) (Erasing next) answer = erases.IsAnewBy m.stage next.making answer
-IsAnewBy t next answer = ⊥
+abbrev pub IsRestartBy : Trying → Trying → Answer → Type 0
+IsRestartBy (Inserting m) (Inserting next) answer = inserts.IsRestartBy m.stage next.apply answer
+IsRestartBy (Erasing m) (Erasing next) answer = erases.IsRestartBy m.stage next.apply answer
+IsRestartBy t next answer = ⊥
 
 -- ---- why it ends as an overlap
 

@@ -1,7 +1,7 @@
 -- What a write asks, and what it knows between two of its steps: its opening, its attempts, its close.
-use Rattle.std.specs.Prelude.{◌≡◌, ◌≢◌, ◌⊎◌, ℕ, ◌+◌, ◌-◌, ◌*◌, ◌<◌, ◌≤◌, ◌==◌, Bool, true, false, List, [], length, Option, Some, None, if◌then◌else◌}
+use Rattle.std.specs.Prelude.{◌≡◌, ◌≢◌, ◌⊎◌, ℕ, ◌+◌, ◌-◌, ◌*◌, ◌<◌, ◌≤◌, ◌==◌, Bool, true, false, List, [], length, Option, Some, None, if◌then◌else◌, ⊤}
 use Rattle.arrayvec.specs.ArrayVec.{ArrayVec}
-use Rattle.art_erase.specs.ArtAttempt.Inserting.{present, tries_left}
+use Rattle.art_erase.specs.ArtAttempt.Inserting.{IsFull, IsOverlap, present, tries_left}
 use Rattle.art_erase.specs.ArtAttempt.Trying.{IsLimited, StillTries}
 use Rattle.art_erase.specs.ArtAttempt.declared.rooms.Room.{Room}
 use Rattle.art_cell.specs.declared.cells.Link.{Link}
@@ -12,6 +12,7 @@ use Rattle.art_change.specs.declared.tries.Job.TheVariants as job
 use Rattle.art_change.specs.declared.tries.Tried.{Tried}
 use Rattle.art_change.specs.declared.tries.Tried.TheVariants as tried
 use Rattle.art_change.specs.declared.tries.Trying.{Trying}
+use Rattle.art_change.specs.declared.tries.Trying.TheVariants.{Inserting, Erasing}
 use Rattle.art_change.specs.declared.writes.Outcome.{Outcome}
 use Rattle.art_change.specs.declared.writes.Outcome.TheVariants.{New, Present, Gone, Absent, Full, Exhausted, Overlaps, Busy, Crowded}
 use Rattle.art_change.specs.declared.writes.Stage.{Stage}
@@ -20,7 +21,7 @@ use Rattle.art_change.specs.declared.writes.Write.{Write}
 use Rattle.art_epoch.specs.Limbo.{IsLimbo}
 use Rattle.art_epoch.specs.Pins.{MayPin}
 use Rattle.art_epoch.specs.declared.limbo.Place.{Place}
-use Rattle.art_erase.specs.Erasing.{absent}
+use Rattle.art_erase.specs.Erasing.{GoesBy, absent}
 use Rattle.art_erase.specs.ArtFrame.Closings as closings
 use Rattle.art_erase.specs.ArtFrame.Closings.{ClosingFits}
 use Rattle.art_erase.specs.ArtFrame.Openings as openings
@@ -29,6 +30,7 @@ use Rattle.art_erase.specs.ArtFrame.Stocks.{first_in, hinted_at}
 use Rattle.art_erase.specs.ArtFrame.declared.stocks.Stock.{Stock}
 use Rattle.art_erase.specs.ArtPlan.Insert.Puts.{inserted}
 use Rattle.art_erase.specs.ArtPlan.declared.insert.leaves.NewLeaf.{NewLeaf}
+use Rattle.art_find.specs.Verdicts.{HasOverlap}
 use Rattle.art_machine.specs.declared.actions.Action.{Action}
 use Rattle.art_machine.specs.declared.actions.Action.TheVariants.{Free}
 use Rattle.art_machine.specs.declared.actions.Answer.{Answer}
@@ -36,9 +38,13 @@ use Rattle.art_plan.specs.declared.changes.Change.{Change}
 use Rattle.art_erase.specs.ArtPlan.Remove.Removals.{removed}
 use Rattle.art_erase.specs.ArtPlan.declared.remove.leaves.OldLeaf.{OldLeaf}
 use Rattle.art_step.specs.Events.{MakesEvent, SeesEvent}
+use Rattle.art_step.specs.Histories.{AreApart}
+use Rattle.art_step.specs.Shows.{Shows}
+use Rattle.art_step.specs.Steps.Check as check
 use Rattle.art_step.specs.Tokens.{links_of}
 use Rattle.art_step.specs.declared.deeds.Deed.{Deed}
 use Rattle.art_step.specs.declared.views.Sizes.{Sizes}
+use Rattle.art_step.specs.declared.views.Stamp.{Stamp}
 use Rattle.art_step.specs.declared.views.View.{View}
 
 -- ---- what it asks
@@ -96,7 +102,7 @@ most_steps turns passes ps = turns + passes + length ps + 592
 
 -- attempts that come anew, where so many turns are left after one that ended so
 abbrev pub ended_left : ℕ → Tried → ℕ
-ended_left left tried.Anew = tries_left left
+ended_left left tried.Restart = tries_left left
 ended_left left e = 0
 
 -- ---- how it ends
@@ -120,7 +126,7 @@ outcome_of left tried.Absent = Some Absent
 outcome_of left (tried.Full pool) = Some (or_busy left (Full pool))
 outcome_of left (tried.Exhausted c) = Some (Exhausted c)
 outcome_of left tried.Overlaps = Some (or_busy left Overlaps)
-outcome_of left tried.Anew = None
+outcome_of left tried.Restart = None
 
 -- a row with this key and this value, and a leaf that had them
 abbrev pub row_of : ArrayVec ℕ → ℕ → NewLeaf
@@ -271,6 +277,18 @@ pub record IsFresh (z : Sizes) (u : View) (own : ℕ) : Type 0 where
   pub hand : u.hand ≡ []
   pub limbo : u.limbo ≡ []
 
+-- where an insert was refused as full or as an overlap: its ground, of a check after the view u, by what the pass has at the end
+abbrev pub IsRefusedBy : Sizes → View → Trying → Room → Outcome → View → Type 0
+IsRefusedBy z u (Inserting m) r (Full pool) v = IsFull z u m.position r pool v
+IsRefusedBy z u (Inserting m) r Overlaps v = IsOverlap z u m.position r v
+IsRefusedBy z u t r o v = ⊤
+
+-- where a removal made its change, or gave it up for a counter: the way by which the leaf goes, by what the pass has at the end
+abbrev pub IsErasedBy : Sizes → View → Trying → Room → Outcome → View → Type 0
+IsErasedBy z u (Erasing m) r (Gone value) v = GoesBy z u m.position m.way r v
+IsErasedBy z u (Erasing m) r (Exhausted c) v = GoesBy z u m.position m.way r v
+IsErasedBy z u t r o v = ⊤
+
 -- it ended so, with what its outcome came of: as a machine of this job has it that was run to its end, with these turns and restarts
 pub record HasGround (z : Sizes) (u : View) (j : Job) (ps : List Place) (turns restarts : ℕ) (o : Outcome) (r : Room) (qs : List Place)
     (v : View) : Type 0 where
@@ -280,6 +298,8 @@ pub record HasGround (z : Sizes) (u : View) (j : Job) (ps : List Place) (turns r
   pub restarts_are : machine.restarts ≡ restarts
   pub outcome_is : machine.outcome ≡ o
   pub done : IsDone z u ps o machine r qs v
+  pub refused : IsRefusedBy z u machine.trying r o v
+  pub erased : IsErasedBy z u machine.trying r o v
 
 -- so many steps were counted as there were turns, and in a table within its limits these are few beside the failures
 pub record UsedTurns (z : Sizes) (u : View) (turns : ℕ) (v : View) : Type 0 where
@@ -293,13 +313,23 @@ pub record HasCounted (z : Sizes) (u : View) (turns restarts : ℕ) (o : Outcome
 
 -- it did not try anew, or this answer to its attempt was why
 abbrev pub RestartsBy : Write → Write → Answer → Type 0
-RestartsBy m next answer = (next.restarts ≡ m.restarts) ⊎ ((t : Trying) × tries.IsAnewBy m.trying t answer)
+RestartsBy m next answer = (next.restarts ≡ m.restarts) ⊎ ((t : Trying) × tries.IsRestartBy m.trying t answer)
 
 -- ---- an overlap
 
 -- the outcome is not that a key begins the other
 abbrev pub IsApart : Write → Type 0
 IsApart m = m.outcome ≢ Overlaps
+
+-- from the view v to the view w a check succeeded, by whose notes the key k begins that of a row, or that of a row begins it
+pub record FindsOverlap (z : Sizes) (k : List ℕ) (v w : View) : Type 0 where
+  pub stamp : Stamp
+  pub shows : Shows z v stamp (λ s. HasOverlap s k)
+  pub checked : check.Unchanged z v w stamp None
+
+-- none does so: no admitted key begins another, or there is no such check
+abbrev pub NoneOverlaps : (List ℕ → Type 0) → Sizes → List ℕ → View → View → Type 0
+NoneOverlaps A z k v w = AreApart A ⊎ (FindsOverlap z k v w → ⊥)
 
 -- it is the same write after some of its steps: of this job, in these turns, of this key and value; it ends as a refusal where it had to
 -- before, and no key was found to begin the other

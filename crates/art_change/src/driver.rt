@@ -3,7 +3,7 @@ ghost use Rattle.std.specs.Prelude.{◌≡◌, ◌⊎◌, ◌+◌, ◌<◌, ◌�
 ghost use Rattle.art_cell.specs.declared.cells.Cell.{Cell as CellOf};
 ghost use Rattle.art_change.specs.Tries.{SameKey, deed_at, key_of};
 ghost use Rattle.art_change.specs.Made.{IsMadeBy, key_by};
-ghost use Rattle.art_change.specs.Writes.{Fits, IsApart, RestartsBy, WillRefuse, asks, deed_at as deed_of};
+ghost use Rattle.art_change.specs.Writes.{Fits, IsApart, NoneOverlaps, RestartsBy, WillRefuse, asks, deed_at as deed_of};
 ghost use Rattle.art_change.specs.Writes.{ended_at, steps_left};
 ghost use Rattle.art_change.specs.declared.writes.Outcome.{Outcome as OutcomeOf};
 ghost use Rattle.art_epoch.specs.Limbo.{places_of};
@@ -68,7 +68,8 @@ pub fn step<S: EpochSteps>(
         (S.view steps.old) (S.view steps.new) }
     ensures restarts { RestartsBy write.old write.new result.answer }
     ensures refuses { WillRefuse write.old → WillRefuse write.new }
-    ensures apart { AreApart (S.admits steps.old) → IsApart write.old → IsApart write.new }
+    ensures apart { NoneOverlaps (S.admits steps.old) (S.sizes steps.old) (key_of write.old.job room.old).items
+        (S.view steps.old) (S.view steps.new) → IsApart write.old → IsApart write.new }
     ensures one { (S.view steps.new).steps ≤ (S.view steps.old).steps + 1 }
     ensures left { steps_left write.new room.new (places_of limbo.new) < steps_left write.old room.old (places_of limbo.old) }
     ensures fits { (u : View) (ps : List Place) →

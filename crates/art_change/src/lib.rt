@@ -5,7 +5,7 @@
 //! ```text
 //! Opening ── what waits in limbo goes back; four places, or it is Crowded; the pass is pinned
 //!    ▼
-//! Trying ─── one attempt after another (of an insert `art_attempt`, of a removal `art_erase`), as long as they end as `Anew` and
+//! Trying ─── one attempt after another (of an insert `art_attempt`, of a removal `art_erase`), as long as they end as `Restart` and
 //!            turns are left
 //!    ▼
 //! Closing ── a label for what was unlinked, unused numbers back, the pass goes idle
@@ -33,7 +33,8 @@
 //! refusal), and the frame is closed: the pass is idle and has nothing in hand. `Busy` comes only where as many steps were made
 //! as turns were given, and these are few beside the failures that were met; each restart was a failure (`HasCounted`). `Overlaps`
 //! never comes where no admitted key begins another, as those of one schema never do: the check of such a place shows a tree with
-//! two keys, both admitted, of which one begins the other (`apart` of `step` and of `finish`).
+//! two keys, both admitted, of which one begins the other (`apart` of `step` and of `finish`). And it comes by no other step than such
+//! a check (`FindsOverlap`), whatever keys are admitted.
 #![tactic(auto)]
 
 mod driver;

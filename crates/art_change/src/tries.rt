@@ -3,9 +3,9 @@ ghost use Rattle.std.specs.Prelude.{◌≡◌, ◌≢◌, ℕ, ◌+◌, ◌-◌,
 ghost use Rattle.art_change.specs.Made.{key_by};
 ghost use Rattle.art_erase.specs.ArtAttempt.Asking.{Answers, IsAllowed};
 ghost use Rattle.art_erase.specs.ArtAttempt.declared.rooms.Room.{Room as RoomOf};
-ghost use Rattle.art_change.specs.Tries.{EndsSo, Fits, IsAnewBy, IsFirst, IsOverlapBy, SameKey, asks, deed_at, ended_at, is_free, of_entered, of_erased, steps_left};
+ghost use Rattle.art_change.specs.Tries.{EndsSo, Fits, IsRestartBy, IsFirst, IsOverlapBy, SameKey, asks, deed_at, ended_at, is_free, of_entered, of_erased, steps_left};
 ghost use Rattle.art_change.specs.declared.tries.Job.{Job as JobOf};
-ghost use Rattle.art_change.specs.declared.tries.Tried.TheVariants.{Anew as anew, Overlaps as overlaps};
+ghost use Rattle.art_change.specs.declared.tries.Tried.TheVariants.{Restart as anew, Overlaps as overlaps};
 ghost use Rattle.art_machine.specs.Acting.{steps_in};
 ghost use Rattle.art_machine.specs.declared.actions.Action.{Action as ActionOf};
 ghost use Rattle.art_step.specs.declared.views.Sizes.{Sizes};
@@ -44,7 +44,7 @@ pub enum Tried {
     /// A key begins the other.
     Overlaps,
     /// A version word was locked, obsolete or changed: it may be tried anew.
-    Anew,
+    Restart,
 }
 
 /// An attempt of either.
@@ -94,7 +94,7 @@ impl Trying {
             Fits z u job self.new room.new w }
         ensures left { (left : ℕ) → (is_free self.old ≡ true → 0 < left) →
             steps_left (left - steps_in answer) self.new < steps_left left self.old }
-        ensures anew { ended_at self.new ≡ Some anew → IsAnewBy self.old self.new answer }
+        ensures anew { ended_at self.new ≡ Some anew → IsRestartBy self.old self.new answer }
         ensures overlaps { ended_at self.new ≡ Some overlaps → IsOverlapBy self.old answer }
     {
         match self {
@@ -104,6 +104,7 @@ impl Trying {
     }
 
     /// Makes the steps of the stage where it stands, one after another, but for one that tells its event before a change is made.
+    #[inline(always)]
     pub fn hurry<S: EpochSteps>(&mut self, steps: &mut S, room: &mut Room, left: &mut u32)
         requires turn { is_free self.old ≡ true → 0 < left.old }
         requires going { ended_at self.old ≡ None }
@@ -158,7 +159,7 @@ fn of_entered(entered: Entered) -> Tried
         Entered::Full(pool) => Tried::Full(pool),
         Entered::Exhausted(cell) => Tried::Exhausted(cell),
         Entered::Overlaps => Tried::Overlaps,
-        Entered::Anew => Tried::Anew,
+        Entered::Restart => Tried::Restart,
     }
 }
 
@@ -170,6 +171,6 @@ fn of_erased(erased: Erased) -> Tried
         Erased::Gone(value) => Tried::Gone(value),
         Erased::Absent => Tried::Absent,
         Erased::Exhausted(cell) => Tried::Exhausted(cell),
-        Erased::Anew => Tried::Anew,
+        Erased::Restart => Tried::Restart,
     }
 }

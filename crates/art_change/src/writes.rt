@@ -8,7 +8,7 @@ ghost use Rattle.art_change.specs.Tries as tries;
 ghost use Rattle.art_change.specs.Writes.{Fits, HasAnswered, HasBegun, HasCounted, HasGround, HasOutcome, HasTurn, IsApart, IsClosing, IsOpening, IsReady, IsSameWrite, IsTrying, MayWrite, OverlapsBy, RestartsBy, WasOpened};
 ghost use Rattle.art_change.specs.Writes.{HoldsOrTold, WillRefuse, freed_by, given, is_refusal, turns_used};
 ghost use Rattle.art_change.specs.Writes.{asks, asks_at, deed_at, ended_at, ended_left, gone_by, left_at, most_steps, or_busy, outcome_of, steps_left};
-ghost use Rattle.art_change.specs.declared.tries.Tried.TheVariants.{Anew as anew, Overlaps as tried_overlaps};
+ghost use Rattle.art_change.specs.declared.tries.Tried.TheVariants.{Restart as anew, Overlaps as tried_overlaps};
 ghost use Rattle.art_change.specs.declared.writes.Outcome.TheVariants.{Overlaps as overlaps};
 ghost use Rattle.art_change.specs.declared.writes.Stage.TheVariants as stages;
 ghost use Rattle.art_epoch.specs.Limbo.{places_of};
@@ -605,7 +605,7 @@ fn outcome_of(left: u32, tried: Tried) -> Option<Outcome>
         Tried::Full(pool) => Some(or_busy(left, Outcome::Full(pool))),
         Tried::Exhausted(cell) => Some(Outcome::Exhausted(cell)),
         Tried::Overlaps => Some(or_busy(left, Outcome::Overlaps)),
-        Tried::Anew => None,
+        Tried::Restart => None,
     }
 }
 

@@ -20,9 +20,9 @@ pub enum ReclaimStage {
     /// It is to be raised.
     Raising,
     /// The word of this pass is to be found; this is the least before it that is not 0.
-    Watching(u32, Option<u64>),
+    Watching { pass: u32, least: Option<u64> },
     /// This is the least of all; so many numbers have gone back.
-    Freeing(Option<u64>, u32),
+    Freeing { least: Option<u64>, freed: u32 },
 }
 
 /// Gives back what waits in the limbo of an idle pass, and what no other pass may still have in a stamp: it raises the epoch,
@@ -65,8 +65,8 @@ impl Reclaiming {
         match self.stage {
             ReclaimStage::Noting => Some(Action::ReadEpoch),
             ReclaimStage::Raising => Some(Action::RaiseEpoch),
-            ReclaimStage::Watching(pass, _) => Some(Action::ReadPin { pass }),
-            ReclaimStage::Freeing(least, _) => {
+            ReclaimStage::Watching { pass, .. } => Some(Action::ReadPin { pass }),
+            ReclaimStage::Freeing { least, .. } => {
                 let index = limbo.first_open(least)?;
                 Some(Action::Free {
                     link: limbo.places()[index].link,
@@ -100,8 +100,8 @@ impl Reclaiming {
         ensures { result ≡ least_at self.now.stage }
     {
         match self.stage {
-            ReclaimStage::Watching(_, least) => least,
-            ReclaimStage::Freeing(least, _) => least,
+            ReclaimStage::Watching { least, .. } => least,
+            ReclaimStage::Freeing { least, .. } => least,
             _ => None,
         }
     }
@@ -113,7 +113,7 @@ impl Reclaiming {
             Reclaims z v0 v ps qs result }
     {
         match self.stage {
-            ReclaimStage::Freeing(_, count) => count,
+            ReclaimStage::Freeing { freed: count, .. } => count,
             _ => 0,
         }
     }
@@ -124,7 +124,7 @@ fn let_go(limbo: &mut Limbo, stage: ReclaimStage)
     requires { MayGo stage (places_of limbo.old) }
     ensures { places_of limbo.new ≡ places_after stage (places_of limbo.old) }
 {
-    if let ReclaimStage::Freeing(least, _) = stage {
+    if let ReclaimStage::Freeing { least, .. } = stage {
         limbo.remove_first(least);
     }
 }
@@ -138,10 +138,16 @@ fn after(own: u32, passes: u32, stage: ReclaimStage, answer: Answer) -> ReclaimS
     match stage {
         ReclaimStage::Noting => noted(own, passes, answer.word()),
         ReclaimStage::Raising => watching(own, passes, 0, None),
-        ReclaimStage::Watching(pass, least) => {
+        ReclaimStage::Watching { pass, least } => {
             watching(own, passes, pass + 1, least_after(least, answer.word()))
         }
-        ReclaimStage::Freeing(least, count) => ReclaimStage::Freeing(least, count + 1),
+        ReclaimStage::Freeing {
+            least,
+            freed: count,
+        } => ReclaimStage::Freeing {
+            least,
+            freed: count + 1,
+        },
     }
 }
 
@@ -164,9 +170,9 @@ fn watching(own: u32, passes: u32, pass: u32, least: Option<u64>) -> ReclaimStag
 {
     let pass = if pass == own { pass + 1 } else { pass };
     if pass < passes {
-        return ReclaimStage::Watching(pass, least);
+        return ReclaimStage::Watching { pass, least };
     }
-    ReclaimStage::Freeing(least, 0)
+    ReclaimStage::Freeing { least, freed: 0 }
 }
 
 /// The least word that is not 0, with one more.

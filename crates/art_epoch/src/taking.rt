@@ -14,9 +14,9 @@ pub enum Search {
     /// So many words gave none.
     Looking(u32),
     /// The word after so many was found with this bit, its lowest.
-    Clearing(u32, u32),
+    Clearing { index: u32, bit: u32 },
     /// The number with this bit of that word is in hand.
-    Took(u32, u32),
+    Took { index: u32, bit: u32 },
 }
 
 /// Takes a number of a pool: it looks at the words of free numbers in their order, from one on and all around, and of one with a
@@ -71,7 +71,7 @@ impl Taking {
                 index: around(self.words, self.first, passed),
                 bit: None,
             }),
-            Search::Clearing(passed, bit) => Some(Action::ClearBit {
+            Search::Clearing { index: passed, bit } => Some(Action::ClearBit {
                 pool: self.pool,
                 index: around(self.words, self.first, passed),
                 bit: Some(bit),
@@ -101,7 +101,7 @@ impl Taking {
         ensures { (z : Sizes) (v0 v : View) → Fits z v0 self.now v → Takes z v0 v self.now.pool self.now.first result }
     {
         match self.search {
-            Search::Took(passed, bit) => {
+            Search::Took { index: passed, bit } => {
                 let index = around(self.words, self.first, passed);
                 Some(Number::in_pool(self.pool, 64 * index + bit))
             }
@@ -131,8 +131,8 @@ fn after(search: Search, word: u64) -> Search
 {
     match search {
         Search::Looking(passed) => looked(passed, word),
-        Search::Clearing(passed, bit) => cleared(passed, bit, word),
-        Search::Took(passed, bit) => Search::Took(passed, bit),
+        Search::Clearing { index: passed, bit } => cleared(passed, bit, word),
+        Search::Took { index: passed, bit } => Search::Took { index: passed, bit },
     }
 }
 
@@ -145,7 +145,10 @@ fn looked(passed: u32, word: u64) -> Search
     if word == 0 {
         return Search::Looking(passed + 1);
     }
-    Search::Clearing(passed, word.trailing_zeros())
+    Search::Clearing {
+        index: passed,
+        bit: word.trailing_zeros(),
+    }
 }
 
 /// The word lost the bit, or did not have it.
@@ -156,7 +159,7 @@ fn cleared(passed: u32, bit: u32, word: u64) -> Search
     ensures { result ≡ after_clear passed bit word }
 {
     if (word >> bit) % 2 == 1 {
-        return Search::Took(passed, bit);
+        return Search::Took { index: passed, bit };
     }
     Search::Looking(passed + 1)
 }

@@ -11,25 +11,36 @@ use Rattle.art_cell.specs.declared.layouts.Layout.{Layout}
 use Rattle.art_cell.specs.declared.layouts.Pool.{Pool}
 use Rattle.art_cell.specs.declared.layouts.Pool.TheVariants.{Leaves}
 use Rattle.art_gather.specs.ArtPlan.ChooseRemove.Losses.{loss_at, loss_of}
-use Rattle.art_gather.specs.ArtPlan.ChooseRemove.Plans.{HasOther}
+use Rattle.art_gather.specs.ArtPlan.ChooseRemove.Plans.{HasFound, HasOther}
 use Rattle.art_gather.specs.ArtPlan.ChooseRemove.Seen.{IsSeen}
 use Rattle.art_gather.specs.ArtPlan.declared.choose_remove.losses.Loss.{Loss}
 use Rattle.art_gather.specs.ArtPlan.declared.choose_remove.losses.Loss.TheVariants as loss
-use Rattle.art_attempt.specs.Trying.{StillTries}
-use Rattle.art_erase.specs.Erasing.{HasNoSmaller, IsChosen, IsNeverSeen, LeavesOther, wants_of}
+use Rattle.art_attempt.specs.Trying.{StillTries, StoodAtCheck, at_check}
+use Rattle.art_attempt.specs.declared.rooms.Room.{Room}
+use Rattle.art_erase.proofs.Founds.{KeepsCheck}
+use Rattle.art_attempt.proofs.LastCheck.{none_stays, stood_stays}
+use Rattle.art_attempt.specs.ArtGather.Reserve.{StayFound}
+use Rattle.art_erase.specs.Erasing.{GoesBy, HasNoSmaller, IsChosen, IsNeverSeen, IsWay, LeavesOther, MayStay, leaves_by, locks_of, demand_of}
 use Rattle.art_erase.specs.declared.erasing.Way.{Way}
 use Rattle.art_erase.specs.declared.erasing.Way.TheVariants as way
 use Rattle.art_attempt.specs.ArtFrame.declared.stocks.Stock.{Stock}
-use Rattle.art_attempt.specs.ArtGather.Supplying.{HasNone}
-use Rattle.art_attempt.specs.ArtGather.Vouching.{KnowsHere}
-use Rattle.art_find.specs.Desks.{node_of}
+use Rattle.art_attempt.specs.ArtGather.Reserve.{HasNone}
+use Rattle.art_attempt.specs.ArtGather.Vouching.{HasJustChecked, KnowsHere}
+use Rattle.art_find.proofs.FoundPlaces.{standing_grows}
+use Rattle.art_find.proofs.Keeping.{Grows}
+use Rattle.art_find.specs.Findings.{IsStanding}
+use Rattle.art_find.specs.ReadSets.{node_of}
 use Rattle.art_find.specs.Kept.{StaysRead}
 use Rattle.art_find.specs.Rereadings.{AreKnown}
-use Rattle.art_find.specs.declared.desks.Desk.{Desk}
-use Rattle.art_find.specs.declared.findings.Stand.{Stand}
+use Rattle.art_find.specs.declared.read_sets.ReadSet.{ReadSet}
+use Rattle.art_find.specs.declared.findings.Position.{Position}
+use Rattle.art_plan.specs.Changes.{targets}
+use Rattle.art_attempt.specs.ArtPlan.Remove.Removals.{remove_effects}
 use Rattle.art_attempt.specs.ArtPlan.declared.remove.leaves.OldLeaf.{OldLeaf}
-use Rattle.art_step.specs.Views.{pool_of_layout, size_of}
+use Rattle.art_step.specs.Views.{Member, pool_of_layout, size_of}
+use Rattle.art_step.specs.declared.views.Note.{Note}
 use Rattle.art_step.specs.declared.views.Sizes.{Sizes}
+use Rattle.art_step.specs.declared.views.Stamp.{Stamp}
 use Rattle.art_step.specs.declared.views.View.{View}
 
 -- ---- what goes with the leaf
@@ -46,36 +57,36 @@ by_cell cell.Anchor o p stays other = refl
 by_cell (cell.Leaf l) o p stays other = refl
 by_cell (cell.Node n) o p stays other = by_word n o p stays other
 
-module _ (t : Stand) (desk now : Desk) where
-  pub loss_stays : StaysRead (node_of desk) (node_of now) → loss_at t desk ≢ loss.Merges → loss_at t now ≡ loss_at t desk
-  loss_stays stays other = by_cell t.stamp.cell (word_read (node_of desk) 1) (word_read (node_of now) 1) (stays 1) other
+module _ (t : Position) (read_set now : ReadSet) where
+  pub loss_stays : StaysRead (node_of read_set) (node_of now) → loss_at t read_set ≢ loss.Merges → loss_at t now ≡ loss_at t read_set
+  loss_stays stays other = by_cell t.stamp.cell (word_read (node_of read_set) 1) (word_read (node_of now) 1) (stays 1) other
 
   -- and once the header is known nothing tells otherwise
-  pub loss_known : (header : ℕ) → word_read (node_of desk) 1 ≡ Some header → StaysRead (node_of desk) (node_of now) → loss_at t now ≡ loss_at t desk
+  pub loss_known : (header : ℕ) → word_read (node_of read_set) 1 ≡ Some header → StaysRead (node_of read_set) (node_of now) → loss_at t now ≡ loss_at t read_set
   loss_known header known stays = ap (λ (o : Option ℕ). loss_of t.stamp.cell (unwrap_or o 0)) (stays 1 header known ∙ sym known)
 
-  module _ (same : node_of now ≡ node_of desk) where
-    pub loss_same : loss_at t now ≡ loss_at t desk
+  module _ (same : node_of now ≡ node_of read_set) where
+    pub loss_same : loss_at t now ≡ loss_at t read_set
     loss_same = ap (λ (reads : List (Option ℕ)). loss_of t.stamp.cell (unwrap_or (word_read reads 1) 0)) same
 
-    pub knows_same : KnowsHere t desk → KnowsHere t now
+    pub knows_same : KnowsHere t read_set → KnowsHere t now
     knows_same known = subst (λ (reads : List (Option ℕ)). AreKnown reads 1 (size_of t.stamp.cell)) (sym same) known
 
-    pub leaves_same : (z : Sizes) (old : OldLeaf) (byte : ℕ) (d : Link) → LeavesOther z t desk old byte d → LeavesOther z t now old byte d
+    pub leaves_same : (z : Sizes) (old : OldLeaf) (byte : ℕ) (d : Link) → LeavesOther z t read_set old byte d → LeavesOther z t now old byte d
     leaves_same z old byte d leaves later is seen = leaves later (is ∙ same) seen
 
-    never_same : (z : Sizes) (old : OldLeaf) → IsNeverSeen z t desk old → IsNeverSeen z t now old
+    never_same : (z : Sizes) (old : OldLeaf) → IsNeverSeen z t read_set old → IsNeverSeen z t now old
     never_same z old never later is seen = never later (is ∙ same) seen
 
-  pub chosen_stays : (z : Sizes) (w : Way) (old : OldLeaf) (s : Stock) (u v : View) → StaysRead (node_of desk) (node_of now) → (KnowsHere t desk → node_of now ≡ node_of desk) → IsChosen z w t desk old s u v → IsChosen z w t now old s u v
+  pub chosen_stays : (z : Sizes) (w : Way) (old : OldLeaf) (s : Stock) (u v : View) → StaysRead (node_of read_set) (node_of now) → (KnowsHere t read_set → node_of now ≡ node_of read_set) → IsChosen z w t read_set old s u v → IsChosen z w t now old s u v
   chosen_stays z way.Stays old s u v stays node c =
-      let kept : (l : Loss) → l ≢ loss.Merges → loss_at t desk ≡ l → loss_at t now ≡ l = λ l other is. loss_stays stays (λ merges. other (sym is ∙ merges)) ∙ is in
+      let kept : (l : Loss) → l ≢ loss.Merges → loss_at t read_set ≡ l → loss_at t now ≡ l = λ l other is. loss_stays stays (λ merges. other (sym is ∙ merges)) ∙ is in
       ⊎_elim
-      (λ (is : loss_at t desk ≡ loss.Leaf). inl (kept loss.Leaf (λ no. cc) is))
-      (λ (k : HasNoSmaller z t desk u v). inr (record { layout = k.layout; shrinks = kept (loss.Shrinks k.layout) (λ no. cc) k.shrinks; none = k.none }))
+      (λ (is : loss_at t read_set ≡ loss.Leaf). inl (kept loss.Leaf (λ no. cc) is))
+      (λ (k : HasNoSmaller z t read_set u v). inr (record { layout = k.layout; shrinks = kept (loss.Shrinks k.layout) (λ no. cc) k.shrinks; none = k.none }))
       c
   chosen_stays z (way.Shrinks layout) old s u v stays node c =
-      let other : loss_at t desk ≢ loss.Merges = λ merges. let no : loss.Shrinks layout ≡ loss.Merges = sym c.0 ∙ merges in cc in
+      let other : loss_at t read_set ≢ loss.Merges = λ merges. let no : loss.Shrinks layout ≡ loss.Merges = sym c.0 ∙ merges in cc in
       (loss_stays stays other ∙ c.0, c.1)
   chosen_stays z (way.Merges other) old s u v stays node c =
       let same = node c.0 in
@@ -83,36 +94,101 @@ module _ (t : Stand) (desk now : Desk) where
   chosen_stays z (way.Lowers byte n) old s u v stays node c = absurd c
   chosen_stays z way.Torn old s u v stays node c = let same = node c.0 in (knows_same same c.0, never_same same z old c.1)
 
+-- ---- what was found stays found
+
+module _ (v w : View) (keeps : StayFound v w) where
+  -- of a smaller node no word gave one, since an earlier view
+  stays_later : (z : Sizes) (t : Position) (read_set : ReadSet) (u b : View) → u.steps ≤ b.steps → MayStay z t read_set b v → MayStay z t read_set u w
+  stays_later z t read_set u b before may = ⊎_elim
+      (λ (is : loss_at t read_set ≡ loss.Leaf). inl is)
+      (λ (k : HasNoSmaller z t read_set b v).
+      let n = k.none in
+      let after = n.after in
+      inr (record {
+        layout = k.layout;
+        shrinks = k.shrinks;
+        none = record { wanted = n.wanted; since = n.since; after = omega (arith, before, after); none = none_stays v w keeps n.since (pool_of_layout k.layout) _ n.none };
+      }))
+      may
+
+  pub chosen_later : (z : Sizes) (way : Way) (t : Position) (read_set : ReadSet) (old : OldLeaf) (s : Stock) (u : View) → IsChosen z way t read_set old s u v → IsChosen z way t read_set old s u w
+  chosen_later z way.Stays t read_set old s u c = stays_later z t read_set u u (omega arith) c
+  chosen_later z (way.Shrinks layout) t read_set old s u c = c
+  chosen_later z (way.Merges other) t read_set old s u c = c
+  chosen_later z (way.Lowers byte n) t read_set old s u c = c
+  chosen_later z way.Torn t read_set old s u c = c
+
+  told_later : (z : Sizes) (way : Way) (t : Position) (read_set : ReadSet) (old : OldLeaf) (u b : View) → u.steps ≤ b.steps → IsWay z way t read_set old b v → IsWay z way t read_set old u w
+  told_later z way.Stays t read_set old u b before c = stays_later z t read_set u b before c
+  told_later z (way.Shrinks layout) t read_set old u b before c = c
+  told_later z (way.Merges other) t read_set old u b before c = c
+  told_later z (way.Lowers byte n) t read_set old u b before c = c
+  told_later z way.Torn t read_set old u b before c = c
+
+-- ---- a change goes by the way
+
+module _ (z : Sizes) (u : View) (k : List ℕ) (t : Position) (read_set : ReadSet) where
+  -- at a check that was just made the key stood where it stands
+  pub stood_now : (early v : View) → StillTries u early → HasJustChecked early v → IsStanding z k t read_set v → StoodAtCheck z u k t read_set v
+  stood_now early v base just standing =
+      let before = base.later.steps in
+      let after = just.after in
+      let same : Grows v (at_check v) = record {
+        stamps = λ x there. subst (λ (xs : List Stamp). Member x xs) (sym just.stamps) there;
+        notes = λ y there. subst (λ (ys : List Note). Member y ys) (sym just.notes) there;
+      } in
+      record { after = omega (arith, before, after); done = just.done; standing = standing_grows z k t read_set v (at_check v) same standing }
+
+module _ (z : Sizes) (u : View) (t : Position) where
+  -- a plan for it that locks as many cells as it says
+  pub goes_by : (way by : Way) (r : Room) (v : View) → way ≡ by → HasFound t r.gone → StoodAtCheck z u r.gone.key.items t r.read_set v → IsWay z by t r.read_set r.gone u v
+      → targets r.change ≡ locks_of by → r.change.effects ≡ remove_effects r.gone (leaves_by by t) → GoesBy z u t way r v
+  goes_by way by r v is found stood told locks effects = subst (λ (w : Way). GoesBy z u t w r v) (sym is)
+      (record { found = found; stood = stood; told = told; locks = locks; effects = effects })
+
+  -- it went so since an earlier view too, whatever numbers are in hand, and still does until the next check
+  pub goes_since : (b : View) (way : Way) (r : Room) (stock : Stock) (v w : View) → u.steps ≤ b.steps → v.steps ≤ w.steps → KeepsCheck v w → GoesBy z b t way (record r { stock = stock }) v → GoesBy z u t way r w
+  goes_since b way r stock v w before more keeps goes = record {
+    found = goes.found;
+    stood = stood_stays v w keeps.checked z u b r.gone.key.items t r.read_set before more goes.stood;
+    told = told_later v w keeps.found z way t r.read_set r.gone u b before goes.told;
+    locks = goes.locks;
+    effects = goes.effects;
+  }
+
+  pub goes_later : (way : Way) (r : Room) (v w : View) → v.steps ≤ w.steps → KeepsCheck v w → GoesBy z u t way r v → GoesBy z u t way r w
+  goes_later way r v w more keeps goes = goes_since u way r r.stock v w (omega arith) more keeps goes
+
 -- ---- where no smaller node was found
 
-pub no_smaller : (z : Sizes) (t : Stand) (layout : Layout) (desk : Desk) (u early v : View) (pool : Pool) → loss_at t desk ≡ loss.Shrinks layout → StillTries u early
-    → HasNone z (wants_of z layout) pool early v → HasNoSmaller z t desk u v
-no_smaller z t layout desk u early v pool shrinks base none =
+pub no_smaller : (z : Sizes) (t : Position) (layout : Layout) (read_set : ReadSet) (u early v : View) (pool : Pool) → loss_at t read_set ≡ loss.Shrinks layout → StillTries u early
+    → HasNone z (demand_of z layout) pool early v → HasNoSmaller z t read_set u v
+no_smaller z t layout read_set u early v pool shrinks base none =
     let is : pool ≡ pool_of_layout layout = ⊎_elim
     (λ (k : (pool ≡ Leaves) × (false ≡ true)). let no : false ≡ true = k.1 in cc)
     (λ (k : (other : Layout) × (Some layout ≡ Some other) × (pool ≡ pool_of_layout other)). k.2 ∙ ap pool_of_layout (sym (same_Some layout k.0 k.1)))
     none.wanted in
     let after : u.steps ≤ none.since = (let later = base.later.steps in let since = none.after in omega (arith, later, since)) in
-    let found : HasNone z (wants_of z layout) pool u v = record { wanted = none.wanted; since = none.since; after = after; none = none.none } in
-    record { layout = layout; shrinks = shrinks; none = subst (λ (p : Pool). HasNone z (wants_of z layout) p u v) is found }
+    let found : HasNone z (demand_of z layout) pool u v = record { wanted = none.wanted; since = none.since; after = after; none = none.none } in
+    record { layout = layout; shrinks = shrinks; none = subst (λ (p : Pool). HasNone z (demand_of z layout) p u v) is found }
 
 -- ---- which child the node keeps
 
--- what the words that were read tell of the other child, in each desk with the same words of the node
-abbrev pub TellsOther : Sizes → Stand → Desk → OldLeaf → Option (ℕ × Link) → Type 0
-TellsOther z t desk old o = (later : Desk) → node_of later ≡ node_of desk → IsSeen z old.key.items t later → loss_at t later ≡ loss.Merges
+-- what the words that were read tell of the other child, in each read set with the same words of the node
+abbrev pub TellsOther : Sizes → Position → ReadSet → OldLeaf → Option (ℕ × Link) → Type 0
+TellsOther z t read_set old o = (later : ReadSet) → node_of later ≡ node_of read_set → IsSeen z old.key.items t later → loss_at t later ≡ loss.Merges
     → (beside : ℕ) × (d : Link) × (o ≡ Some (beside, d)) × HasOther t later old beside d
 
-module _ (z : Sizes) (t : Stand) (desk : Desk) (old : OldLeaf) (merges : loss_at t desk ≡ loss.Merges) where
-  pub none_left : (o : Option (ℕ × Link)) → o ≡ None → TellsOther z t desk old o → IsNeverSeen z t desk old
+module _ (z : Sizes) (t : Position) (read_set : ReadSet) (old : OldLeaf) (merges : loss_at t read_set ≡ loss.Merges) where
+  pub none_left : (o : Option (ℕ × Link)) → o ≡ None → TellsOther z t read_set old o → IsNeverSeen z t read_set old
   none_left o none tells later same seen =
-      let k = tells later same seen (loss_same t desk later same ∙ merges) in
+      let k = tells later same seen (loss_same t read_set later same ∙ merges) in
       let no : None ≡ Some (k.0, k.1) = sym none ∙ k.2 in
       cc
 
-  pub one_left : (o : Option (ℕ × Link)) (byte : ℕ) (d : Link) → o ≡ Some (byte, d) → TellsOther z t desk old o → LeavesOther z t desk old byte d
+  pub one_left : (o : Option (ℕ × Link)) (byte : ℕ) (d : Link) → o ≡ Some (byte, d) → TellsOther z t read_set old o → LeavesOther z t read_set old byte d
   one_left o byte d is tells later same seen =
-      let k = tells later same seen (loss_same t desk later same ∙ merges) in
+      let k = tells later same seen (loss_same t read_set later same ∙ merges) in
       let one : (k.0, k.1) ≡ (byte, d) = same_Some {A = ℕ × Link} (k.0, k.1) (byte, d) (sym k.2 ∙ is) in
       subst (λ (p : ℕ × Link). HasOther t later old p.0 p.1) one k.3
 
@@ -123,5 +199,5 @@ merges_in (cell.Node n) header is = (n, refl)
 merges_in cell.Anchor header is = cc
 merges_in (cell.Leaf l) header is = cc
 
-pub merges_node : (t : Stand) (desk : Desk) → loss_at t desk ≡ loss.Merges → (n : Node) × (t.stamp.cell ≡ cell.Node n)
-merges_node t desk is = merges_in t.stamp.cell (unwrap_or (word_read (node_of desk) 1) 0) is
+pub merges_node : (t : Position) (read_set : ReadSet) → loss_at t read_set ≡ loss.Merges → (n : Node) × (t.stamp.cell ≡ cell.Node n)
+merges_node t read_set is = merges_in t.stamp.cell (unwrap_or (word_read (node_of read_set) 1) 0) is

@@ -7,7 +7,7 @@ use Rattle.art_attempt.specs.ArtPlan.Remove.Removals.{removed}
 use Rattle.art_attempt.specs.declared.rooms.Room.{Room}
 use Rattle.art_cell.specs.declared.cells.Cell.{Cell}
 use Rattle.art_erase.proofs.Finds.{finding_allowed}
-use Rattle.art_erase.specs.Erasing.{Fits, StageFits, absent, asks, asks_at, wants_of}
+use Rattle.art_erase.specs.Erasing.{Fits, StageFits, absent, asks, asks_at, demand_of}
 use Rattle.art_erase.specs.declared.erasing.Erasing.{Erasing}
 use Rattle.art_erase.specs.declared.erasing.Stage.{Stage}
 use Rattle.art_erase.specs.declared.erasing.Stage.TheVariants as stage
@@ -21,11 +21,11 @@ use Rattle.art_step.specs.declared.views.View.{View}
 module _ (z : Sizes) (u : View) (m : Erasing) (r : Room) (v w : View) (a : Action) (answer : Answer) (row : Answers z (absent r.gone) r.change a answer v w) where
   made_at : (s : Stage) → StageFits z u s m r v → asks_at s m r ≡ Some a → w.steps ≡ v.steps + steps_in answer
   made_at stage.Finding fits is = look_made z v w (absent r.gone) r.change a answer row (ask_looks z (absent r.gone) v a (finding_allowed z u m r v fits a is))
-  made_at (stage.Supplying layout) fits is = supply_made z v w (absent r.gone) r.change a answer row (wants_of z layout) r.gone.key.items 0 r.stock fits.0.early m.supplying fits.0.fits is
-  made_at (stage.Reading q) fits is = look_made z v w (absent r.gone) r.change a answer row (reads_look m.stand.stamp q a is)
-  made_at stage.Vouching fits is = look_made z v w (absent r.gone) r.change a answer row (vouch_asks_look m.stand m.vouching a is)
-  made_at stage.Lowering fits is = look_made z v w (absent r.gone) r.change a answer row (lower_asks_look m.stand m.lowering a is)
-  made_at stage.Making fits is = change_made z v w (absent r.gone) r.change a answer row fits.0.early m.making fits.0.fits is
+  made_at (stage.Reserve layout) fits is = supply_made z v w (absent r.gone) r.change a answer row (demand_of z layout) r.gone.key.items 0 r.stock fits.0.early m.reserve fits.0.fits is
+  made_at (stage.Reading q) fits is = look_made z v w (absent r.gone) r.change a answer row (reads_look m.position.stamp q a is)
+  made_at stage.Vouching fits is = look_made z v w (absent r.gone) r.change a answer row (vouch_asks_look m.position m.vouching a is)
+  made_at stage.Lowering fits is = look_made z v w (absent r.gone) r.change a answer row (lower_asks_look m.position m.lowering a is)
+  made_at stage.Apply fits is = change_made z v w (absent r.gone) r.change a answer row fits.0.early m.apply fits.0.fits is
   made_at (stage.Ended e) fits is = absurd (cc)
 
   pub attempt_steps : Fits z u m r v → asks m r ≡ Some a → w.steps ≡ v.steps + steps_in answer
@@ -36,11 +36,11 @@ module _ (z : Sizes) (u : View) (m : Erasing) (r : Room) (v w : View) (a : Actio
 module _ (z : Sizes) (u : View) (m : Erasing) (r : Room) (v : View) (c : Cell) (b : Bool) where
   deed_made : (s : Stage) → StageFits z u s m r v → asks_at s m r ≡ Some (Commit c b) → r.change.effects.deed ≡ removed r.gone
   deed_made stage.Finding fits is = absurd (ask_looks z (absent r.gone) v (Commit c b) (finding_allowed z u m r v fits (Commit c b) is))
-  deed_made (stage.Supplying layout) fits is = absurd (supply_asks_supply r.gone.key.items 0 r.stock m.supplying (Commit c b) is)
-  deed_made (stage.Reading q) fits is = absurd (reads_look m.stand.stamp q (Commit c b) is)
-  deed_made stage.Vouching fits is = absurd (vouch_asks_look m.stand m.vouching (Commit c b) is)
-  deed_made stage.Lowering fits is = absurd (lower_asks_look m.stand m.lowering (Commit c b) is)
-  deed_made stage.Making fits is = fits.0.deed
+  deed_made (stage.Reserve layout) fits is = absurd (supply_asks_supply r.gone.key.items 0 r.stock m.reserve (Commit c b) is)
+  deed_made (stage.Reading q) fits is = absurd (reads_look m.position.stamp q (Commit c b) is)
+  deed_made stage.Vouching fits is = absurd (vouch_asks_look m.position m.vouching (Commit c b) is)
+  deed_made stage.Lowering fits is = absurd (lower_asks_look m.position m.lowering (Commit c b) is)
+  deed_made stage.Apply fits is = fits.0.deed
   deed_made (stage.Ended e) fits is = cc
 
   pub makes_removal : Fits z u m r v → asks m r ≡ Some (Commit c b) → r.change.effects.deed ≡ removed r.gone

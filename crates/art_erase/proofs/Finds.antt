@@ -18,7 +18,7 @@ use Rattle.art_find.specs.Asking.{MayLook}
 use Rattle.art_find.specs.Descents.{answer_at, asks, ended_at}
 use Rattle.art_find.specs.Verdicts.{value_of}
 use Rattle.art_find.specs.declared.verdicts.Verdict.{Verdict}
-use Rattle.art_find.specs.declared.verdicts.Verdict.TheVariants.{Found, Empty, OtherLeaf, OtherPrefix, Free, Overlaps, Torn, Absent}
+use Rattle.art_find.specs.declared.verdicts.Verdict.TheVariants.{Found, Empty, LeafMismatch, PrefixMismatch, NoChild, Overlaps, Torn, Absent}
 use Rattle.art_attempt.proofs.ArtFrame.Stocked.{stock_same}
 use Rattle.art_machine.specs.Acting.{Answers, IsLook, goes_on, passed, telling}
 use Rattle.art_machine.specs.declared.actions.Action.{Action}
@@ -26,10 +26,10 @@ use Rattle.art_machine.specs.declared.actions.Action.TheVariants.{Settle}
 use Rattle.art_machine.specs.declared.actions.Answer.{Answer}
 use Rattle.art_find.proofs.FoundPlaces.{standing_grows}
 use Rattle.art_find.proofs.Keeping.{passed_grows}
-use Rattle.art_find.specs.Findings.{IsStanding, stand_at}
+use Rattle.art_find.specs.Findings.{IsStanding, position_at}
 use Rattle.art_find.specs.declared.descents.Stage.{Stage}
 use Rattle.art_find.specs.declared.findings.Finding.{Finding}
-use Rattle.art_find.specs.declared.findings.Stand.{Stand}
+use Rattle.art_find.specs.declared.findings.Position.{Position}
 use Rattle.art_step.proofs.Shows.{passed_rest, remove_settles, told_rest}
 use Rattle.art_step.specs.Shows.{HasValue, OnlyReads, Rest, Shows}
 use Rattle.art_step.specs.Steps.Check as check
@@ -41,19 +41,19 @@ use Rattle.art_tree.specs.Heaps.{Cells}
 
 -- ---- what is asked
 
-pub no_place : (m : Finding) (o : Option Action) (a : Action) → stand_at m ≡ None → asks_place (stand_at m) o ≡ Some a → o ≡ Some a
-no_place m o a nowhere is = sym (ap (λ (t : Option Stand). asks_place t o) nowhere) ∙ is
+pub no_place : (m : Finding) (o : Option Action) (a : Action) → position_at m ≡ None → asks_place (position_at m) o ≡ Some a → o ≡ Some a
+no_place m o a nowhere is = sym (ap (λ (t : Option Position). asks_place t o) nowhere) ∙ is
 
-pub at_place : (m : Finding) (o : Option Action) (a : Action) (t : Stand) → stand_at m ≡ Some t → asks_place (stand_at m) o ≡ Some a → check_of t ≡ a
-at_place m o a t at is = same_Some {A = Action} (check_of t) a (sym (ap (λ (s : Option Stand). asks_place s o) at) ∙ is)
+pub at_place : (m : Finding) (o : Option Action) (a : Action) (t : Position) → position_at m ≡ Some t → asks_place (position_at m) o ≡ Some a → check_of t ≡ a
+at_place m o a t at is = same_Some {A = Action} (check_of t) a (sym (ap (λ (s : Option Position). asks_place s o) at) ∙ is)
 
 -- the check of a place is a look
-pub check_look : (found : Verdict) (t : Stand) → IsLook (check_by found t)
+pub check_look : (found : Verdict) (t : Position) → IsLook (check_by found t)
 check_look (Found l value) t = tt
 check_look Empty t = tt
-check_look (OtherLeaf l at byte) t = tt
-check_look (OtherPrefix n header at) t = tt
-check_look (Free n header) t = tt
+check_look (LeafMismatch l at byte) t = tt
+check_look (PrefixMismatch n header at) t = tt
+check_look (NoChild n header) t = tt
 check_look Overlaps t = tt
 check_look Torn t = tt
 check_look Absent t = tt
@@ -80,41 +80,41 @@ told_by found d = Some d
 pub told_other : (found : Verdict) (d : Deed) → ((l value : ℕ) → found ≡ Found l value → ⊥) → told_by found d ≡ Some d
 told_other (Found l value) d other = absurd (other l value refl)
 told_other Empty d other = refl
-told_other (OtherLeaf l at byte) d other = refl
-told_other (OtherPrefix n header at) d other = refl
-told_other (Free n header) d other = refl
+told_other (LeafMismatch l at byte) d other = refl
+told_other (PrefixMismatch n header at) d other = refl
+told_other (NoChild n header) d other = refl
 told_other Overlaps d other = refl
 told_other Torn d other = refl
 told_other Absent d other = refl
 
-place_passed : (z : Sizes) (d : Deed) (found : Verdict) (t : Stand) (r : Answer) (v w : View) → Answers z (telling d) (check_by found t) r v w → passed r ≡ true
+place_passed : (z : Sizes) (d : Deed) (found : Verdict) (t : Position) (r : Answer) (v w : View) → Answers z (telling d) (check_by found t) r v w → passed r ≡ true
     → check.Unchanged z v w t.stamp (told_by found d)
 place_passed z d (Found l value) t r v w row is = check_passed z d t.stamp r v w row is
 place_passed z d Empty t r v w row is = settle_passed z d t.stamp r v w row is
-place_passed z d (OtherLeaf l at byte) t r v w row is = settle_passed z d t.stamp r v w row is
-place_passed z d (OtherPrefix n header at) t r v w row is = settle_passed z d t.stamp r v w row is
-place_passed z d (Free n header) t r v w row is = settle_passed z d t.stamp r v w row is
+place_passed z d (LeafMismatch l at byte) t r v w row is = settle_passed z d t.stamp r v w row is
+place_passed z d (PrefixMismatch n header at) t r v w row is = settle_passed z d t.stamp r v w row is
+place_passed z d (NoChild n header) t r v w row is = settle_passed z d t.stamp r v w row is
 place_passed z d Overlaps t r v w row is = settle_passed z d t.stamp r v w row is
 place_passed z d Torn t r v w row is = settle_passed z d t.stamp r v w row is
 place_passed z d Absent t r v w row is = settle_passed z d t.stamp r v w row is
 
-place_failed : (z : Sizes) (d : Deed) (found : Verdict) (t : Stand) (r : Answer) (v w : View) → Answers z (telling d) (check_by found t) r v w → passed r ≡ false → OnlyReads v w
+place_failed : (z : Sizes) (d : Deed) (found : Verdict) (t : Position) (r : Answer) (v w : View) → Answers z (telling d) (check_by found t) r v w → passed r ≡ false → OnlyReads v w
 place_failed z d (Found l value) t r v w row is = check_failed z d t.stamp r v w row is
 place_failed z d Empty t r v w row is = settle_failed z d t.stamp r v w row is
-place_failed z d (OtherLeaf l at byte) t r v w row is = settle_failed z d t.stamp r v w row is
-place_failed z d (OtherPrefix n header at) t r v w row is = settle_failed z d t.stamp r v w row is
-place_failed z d (Free n header) t r v w row is = settle_failed z d t.stamp r v w row is
+place_failed z d (LeafMismatch l at byte) t r v w row is = settle_failed z d t.stamp r v w row is
+place_failed z d (PrefixMismatch n header at) t r v w row is = settle_failed z d t.stamp r v w row is
+place_failed z d (NoChild n header) t r v w row is = settle_failed z d t.stamp r v w row is
 place_failed z d Overlaps t r v w row is = settle_failed z d t.stamp r v w row is
 place_failed z d Torn t r v w row is = settle_failed z d t.stamp r v w row is
 place_failed z d Absent t r v w row is = settle_failed z d t.stamp r v w row is
 
 -- so it does not go on
-place_off : (z : Sizes) (d : Deed) (found : Verdict) (t : Stand) (r : Answer) (v w : View) → Answers z (telling d) (check_by found t) r v w → passed r ≡ false → goes_on r ≡ false
+place_off : (z : Sizes) (d : Deed) (found : Verdict) (t : Position) (r : Answer) (v w : View) → Answers z (telling d) (check_by found t) r v w → passed r ≡ false → goes_on r ≡ false
 place_off z d (Found l value) t r v w row is = check_off z d t.stamp r v w row is
 place_off z d Empty t r v w row is = settle_off z d t.stamp r v w row is
-place_off z d (OtherLeaf l at byte) t r v w row is = settle_off z d t.stamp r v w row is
-place_off z d (OtherPrefix n header at) t r v w row is = settle_off z d t.stamp r v w row is
-place_off z d (Free n header) t r v w row is = settle_off z d t.stamp r v w row is
+place_off z d (LeafMismatch l at byte) t r v w row is = settle_off z d t.stamp r v w row is
+place_off z d (PrefixMismatch n header at) t r v w row is = settle_off z d t.stamp r v w row is
+place_off z d (NoChild n header) t r v w row is = settle_off z d t.stamp r v w row is
 place_off z d Overlaps t r v w row is = settle_off z d t.stamp r v w row is
 place_off z d Torn t r v w row is = settle_off z d t.stamp r v w row is
 place_off z d Absent t r v w row is = settle_off z d t.stamp r v w row is
@@ -144,7 +144,7 @@ module _ (z : Sizes) (u : View) (m : Erasing) (r : Room) (v w : View) (short : l
     has = stock_reads z r.gone.key.items 0 f.early w r.stock only f.has;
   }
 
-  module _ (t : Stand) (s : StandsThere z r.gone.key.items m.finding r.desk f.early v t) (a : Answer) (row : Answers z (telling (absent r.gone)) (check_of t) a v w) where
+  module _ (t : Position) (s : StandsThere z r.gone.key.items m.finding r.read_set f.early v t) (a : Answer) (row : Answers z (telling (absent r.gone)) (check_of t) a v w) where
     only_then : OnlyReads v w → OnlyReads f.early w
     only_then only = (reads_on f.early v w only s.reads).only
 
@@ -178,8 +178,8 @@ module _ (z : Sizes) (u : View) (m : Erasing) (r : Room) (v w : View) (short : l
       pub found_there : told_by t.verdict (absent r.gone) ≡ None → EndsWithin z u 1201 r w
       found_there is = ends_reading (only_then (passed_rest z v w t.stamp (subst (λ (o : Option Deed). check.Unchanged z v w t.stamp o) is unchanged)))
 
-      pub stands_still : IsStanding z r.gone.key.items t r.desk w
-      stands_still = standing_grows z r.gone.key.items t r.desk v w (passed_grows z v w t.stamp (told_by t.verdict (absent r.gone)) unchanged) s.standing
+      pub stands_still : IsStanding z r.gone.key.items t r.read_set w
+      stands_still = standing_grows z r.gone.key.items t r.read_set v w (passed_grows z v w t.stamp (told_by t.verdict (absent r.gone)) unchanged) s.standing
 
 -- ---- each step may be made
 
@@ -193,7 +193,7 @@ module _ (z : Sizes) (u : View) (m : Erasing) (r : Room) (v : View) (f : IsFindi
   descent_allowed : (a : Action) → asks m.finding.descent.stage ≡ Some a → MayLook z so v a
   descent_allowed a is = subst (λ (o : Option Action). IfSome o (MayLook z so v)) is (allowed z k (absent_of r.gone) m.finding.descent.depth m.finding.descent.stage f.early v f.fits.descent)
 
-  module _ (t : Stand) (s : StandsThere z k m.finding r.desk f.early v t) where
+  module _ (t : Position) (s : StandsThere z k m.finding r.read_set f.early v t) where
     plain : HasVersion z t.stamp.cell × check.May z v t.stamp None
     plain = (s.standing.stamp.inside, record { stamp = s.standing.stamp.stamp; tells = tt })
 
@@ -207,28 +207,28 @@ module _ (z : Sizes) (u : View) (m : Erasing) (r : Room) (v : View) (f : IsFindi
     check_allowed : (found : Verdict) → t.verdict ≡ found → MayAsk z (absent r.gone) v (check_by found t)
     check_allowed (Found l value) at = plain
     check_allowed Empty at = settles Empty at refl
-    check_allowed (OtherLeaf l i byte) at = settles (OtherLeaf l i byte) at refl
-    check_allowed (OtherPrefix n header i) at = settles (OtherPrefix n header i) at refl
-    check_allowed (Free n header) at = settles (Free n header) at refl
+    check_allowed (LeafMismatch l i byte) at = settles (LeafMismatch l i byte) at refl
+    check_allowed (PrefixMismatch n header i) at = settles (PrefixMismatch n header i) at refl
+    check_allowed (NoChild n header) at = settles (NoChild n header) at refl
     check_allowed Overlaps at = settles Overlaps at refl
     check_allowed Torn at = settles Torn at refl
     check_allowed Absent at = settles Absent at refl
 
-  place_allowed : (o : Option Stand) (a : Action) → stand_at m.finding ≡ o → asks_place o (asks m.finding.descent.stage) ≡ Some a → MayAsk z (absent r.gone) v a
+  place_allowed : (o : Option Position) (a : Action) → position_at m.finding ≡ o → asks_place o (asks m.finding.descent.stage) ≡ Some a → MayAsk z (absent r.gone) v a
   place_allowed (Some t) a at is =
-      let s = stands_there z k (absent_of r.gone) m.finding r.desk f.early v f.fits f.exact t at in
+      let s = stands_there z k (absent_of r.gone) m.finding r.read_set f.early v f.fits f.exact t at in
       subst (MayAsk z (absent r.gone) v) (same_Some {A = Action} (check_of t) a is) (check_allowed t s t.verdict refl)
   place_allowed None a at is =
       not_settling z (absent r.gone) so v a (place_plain m.finding.descent.stage (undecided m.finding at) a is) (descent_allowed a is)
 
   pub finding_allowed : (a : Action) → finding_asks m.finding ≡ Some a → MayAsk z (absent r.gone) v a
-  finding_allowed a is = place_allowed (stand_at m.finding) a refl is
+  finding_allowed a is = place_allowed (position_at m.finding) a refl is
 
 -- ---- while it goes on a step is asked for
 
-place_asks : (o : Option Stand) (s : Stage) → ended_at s ≡ None → (a : Action) × (asks_place o (asks s) ≡ Some a)
+place_asks : (o : Option Position) (s : Stage) → ended_at s ≡ None → (a : Action) × (asks_place o (asks s) ≡ Some a)
 place_asks (Some t) s going = (check_of t, refl)
 place_asks None s going = stage_asks s going
 
 pub finding_going : (m : Finding) → ended_at m.descent.stage ≡ None → (a : Action) × (finding_asks m ≡ Some a)
-finding_going m going = place_asks (stand_at m) m.descent.stage going
+finding_going m going = place_asks (position_at m) m.descent.stage going

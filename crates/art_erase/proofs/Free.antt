@@ -24,7 +24,7 @@ use Rattle.art_step.specs.declared.views.Sizes.{Sizes}
 use Rattle.art_step.specs.declared.views.View.{View}
 
 vouching_goes : (z : Sizes) (r : Room) (m : Erasing) (s : Vouching) (u v : View) → vouching.ended_at s ≡ None
-    → vouching.StageFits z r.gone.key.items (goes m.way) m.stand s r.desk u v → IsVouching z r.gone.key.items m.stand r.desk u v
+    → vouching.StageFits z r.gone.key.items (goes m.way) m.position s r.read_set u v → IsVouching z r.gone.key.items m.position r.read_set u v
 vouching_goes z r m (vouches.Above q) u v is fits = fits.0
 vouching_goes z r m (vouches.Here q) u v is fits = fits.0
 vouching_goes z r m vouches.CheckAbove u v is fits = fits.0
@@ -40,9 +40,9 @@ module _ (z : Sizes) (u : View) (m : Erasing) (r : Room) (v : View) where
   vouching_so : HasVouched z u m r v → vouching.ended_at m.vouching ≡ None → EndsSo z u r v
   vouching_so h going = within_so z u 22300 r v (omega arith) (vouched_ends z u m r v h (vouching_goes z r m m.vouching h.early v going h.fits.stage).reads)
 
-  making_so : HasMade z u m r v → is_begun m.making ≡ true → EndsSo z u r v
-  making_so h is =
-      let p = begun_locking r.change m.making h.early v is h.fits.stage in
+  apply_so : HasMade z u m r v → is_begun m.apply ≡ true → EndsSo z u r v
+  apply_so h is =
+      let p = begun_locking r.change m.apply h.early v is h.fits.stage in
       let free = locking_none h.early r.change v p in
       let base = h.base in
       let still : StillTries u v = record {
@@ -57,7 +57,7 @@ module _ (z : Sizes) (u : View) (m : Erasing) (r : Room) (v : View) where
         spent = λ limited.
             let spent = h.spent limited in
             let steps = h.fits.steps in
-            let most = begun_made m.making is in
+            let most = begun_made m.apply is in
             let more = h.later.failures in
             omega (arith, spent, steps, most, more);
         has = stock_same z r.gone.key.items 0 h.early v r.stock (ap (λ (o : Rest). o.hand) p.same.rest) h.has;
@@ -66,11 +66,11 @@ module _ (z : Sizes) (u : View) (m : Erasing) (r : Room) (v : View) where
   reading_ends : (q : Rereading) → IsReadingOn z u m q r v → EndsSo z u r v
   reading_ends q f = reading_so z u f.early f.base r v f.later f.has f.reads.reads 22900 (λ limited. let spent = f.spent limited in omega (arith, spent))
 
-  pub free_so : length r.gone.key.items ≤ 64 → (s : Stage) → free_at s m.making ≡ true → erased_at s ≡ None → StageFits z u s m r v → EndsSo z u r v
+  pub free_so : length r.gone.key.items ≤ 64 → (s : Stage) → free_at s m.apply ≡ true → erased_at s ≡ None → StageFits z u s m r v → EndsSo z u r v
   free_so short stage.Finding is going fits = finding_so short fits
-  free_so short (stage.Supplying layout) is going fits = within_so z u 21700 r v (omega arith) (supplies_so z u layout m r v fits.0)
+  free_so short (stage.Reserve layout) is going fits = within_so z u 21700 r v (omega arith) (supplies_so z u layout m r v fits.0)
   free_so short (stage.Reading q) is going fits = reading_ends q fits.0
   free_so short stage.Vouching is going fits = vouching_so fits.0 fits.1
   free_so short stage.Lowering is going fits = within_so z u 22300 r v (omega arith) (lower_so z u m r v fits.0)
-  free_so short stage.Making is going fits = making_so fits.0 is
+  free_so short stage.Apply is going fits = apply_so fits.0 is
   free_so short (stage.Ended e) is going fits = cc

@@ -6,7 +6,7 @@ use Rattle.art_attempt.proofs.Tries.{later_then, still_later}
 use Rattle.art_attempt.specs.declared.rooms.Room.{Room}
 use Rattle.art_erase.proofs.Finds.{ends_reading, within_so}
 use Rattle.art_erase.specs.Erasing.{Fits, IsFinding, IsRoom, StageFits, absent, absent_of}
-use Rattle.art_erase.specs.declared.erasing.Erased.TheVariants.{Anew}
+use Rattle.art_erase.specs.declared.erasing.Erased.TheVariants.{Restart}
 use Rattle.art_erase.specs.declared.erasing.Erasing.{Erasing}
 use Rattle.art_erase.specs.declared.erasing.Stage.{Stage}
 use Rattle.art_erase.specs.declared.erasing.Stage.TheVariants.{Finding, Ended}
@@ -16,16 +16,16 @@ use Rattle.art_machine.specs.Acting.{Answers, IsLook, goes_on, telling}
 use Rattle.art_machine.specs.declared.actions.Action.{Action}
 use Rattle.art_machine.specs.declared.actions.Answer.{Answer}
 use Rattle.art_find.specs.Findings.{CameBack, HasHeard, WasLooked, WentOn}
-use Rattle.art_find.specs.declared.desks.Desk.{Desk}
+use Rattle.art_find.specs.declared.read_sets.ReadSet.{ReadSet}
 use Rattle.art_find.specs.declared.findings.Finding.{Finding as FindingOf}
 use Rattle.art_step.specs.declared.views.Sizes.{Sizes}
 use Rattle.art_step.specs.declared.views.View.{View}
 
 module _ (z : Sizes) (u : View) (m : Erasing) (r : Room) (v w : View) (room : IsRoom z r) (f : IsFinding z u m r v)
     (asked : Action) (answer : Answer) (looked : WasLooked z m.finding asked answer v w)
-    (n : FindingOf) (desk : Desk) (heard : HasHeard z r.gone.key.items answer m.finding r.desk v n desk w) where
+    (n : FindingOf) (read_set : ReadSet) (heard : HasHeard z r.gone.key.items answer m.finding r.read_set v n read_set w) where
   abbrev then : Room
-  then = record r { desk = desk }
+  then = record r { read_set = read_set }
 
   same_room : IsRoom z then
   same_room = record { sizes = room.sizes; key = room.key }
@@ -37,7 +37,7 @@ module _ (z : Sizes) (u : View) (m : Erasing) (r : Room) (v w : View) (room : Is
   one_more = looked.row (absent r.gone)
 
   -- its way was changed: nothing was told
-  pub ends_anew : goes_on answer ≡ false → Fits z u (record m { finding = n; stage = Ended Anew }) then w
+  pub ends_anew : goes_on answer ≡ false → Fits z u (record m { finding = n; stage = Ended Restart }) then w
   ends_anew off =
       let d = absent r.gone in
       let what = absent_of r.gone in
@@ -49,9 +49,9 @@ module _ (z : Sizes) (u : View) (m : Erasing) (r : Room) (v w : View) (room : Is
       let before = (still_later u f.early f.base v f.later).failures in
       record { room = same_room; stage = (record { still = so.still; spent = so.spent; has = so.has }, omega (arith, more, before)) }
 
-module _ (z : Sizes) (u : View) (m : Erasing) (r : Room) (v : View) (room : IsRoom z r) (f : IsFinding z u m r v) (n : FindingOf) (desk : Desk) (w : View) where
+module _ (z : Sizes) (u : View) (m : Erasing) (r : Room) (v : View) (room : IsRoom z r) (f : IsFinding z u m r v) (n : FindingOf) (read_set : ReadSet) (w : View) where
   -- it has gone on
-  pub goes_on_so : WentOn z r.gone.key.items m.finding r.desk v n desk w → IsFinding z u (record m { finding = n }) (record r { desk = desk }) w
+  pub goes_on_so : WentOn z r.gone.key.items m.finding r.read_set v n read_set w → IsFinding z u (record m { finding = n }) (record r { read_set = read_set }) w
   goes_on_so on =
       let later = on.later in
       let failures = on.failures in
@@ -68,23 +68,23 @@ module _ (z : Sizes) (u : View) (m : Erasing) (r : Room) (v : View) (room : IsRo
       }
 
 -- the place is sought still, or its way was changed
-pub descends_so : (z : Sizes) (u : View) (m : Erasing) (r : Room) (v : View) (n : FindingOf) (desk : Desk) (w : View) → m.stage ≡ Finding → Fits z u m r v → WentOn z r.gone.key.items m.finding r.desk v n desk w
-    → Fits z u (record m { finding = n }) (record r { desk = desk }) w
-descends_so z u m r v n desk w stage fits on =
+pub descends_so : (z : Sizes) (u : View) (m : Erasing) (r : Room) (v : View) (n : FindingOf) (read_set : ReadSet) (w : View) → m.stage ≡ Finding → Fits z u m r v → WentOn z r.gone.key.items m.finding r.read_set v n read_set w
+    → Fits z u (record m { finding = n }) (record r { read_set = read_set }) w
+descends_so z u m r v n read_set w stage fits on =
     let f = subst (λ (s : Stage). StageFits z u s m r v) stage fits.stage in
     let next : Erasing = record m { finding = n } in
-    let then : Room = record r { desk = desk } in
+    let then : Room = record r { read_set = read_set } in
     record {
       room = record { sizes = fits.room.sizes; key = fits.room.key };
-      stage = subst (λ (s : Stage). StageFits z u s next then w) (sym stage) (goes_on_so z u m r v fits.room f n desk w on);
+      stage = subst (λ (s : Stage). StageFits z u s next then w) (sym stage) (goes_on_so z u m r v fits.room f n read_set w on);
     }
 
-pub comes_back : (z : Sizes) (u : View) (m : Erasing) (r : Room) (v : View) (n : FindingOf) (desk : Desk) (w : View) → m.stage ≡ Finding → Fits z u m r v → CameBack z r.gone.key.items m.finding r.desk v n desk w
-    → Fits z u (record m { finding = n; stage = Ended Anew }) (record r { desk = desk }) w
-comes_back z u m r v n desk w stage fits back =
+pub comes_back : (z : Sizes) (u : View) (m : Erasing) (r : Room) (v : View) (n : FindingOf) (read_set : ReadSet) (w : View) → m.stage ≡ Finding → Fits z u m r v → CameBack z r.gone.key.items m.finding r.read_set v n read_set w
+    → Fits z u (record m { finding = n; stage = Ended Restart }) (record r { read_set = read_set }) w
+comes_back z u m r v n read_set w stage fits back =
     let f = subst (λ (s : Stage). StageFits z u s m r v) stage fits.stage in
     let middle : Erasing = record m { finding = back.middle } in
-    let there : Room = record r { desk = back.kept } in
+    let there : Room = record r { read_set = back.kept } in
     let room : IsRoom z there = record { sizes = fits.room.sizes; key = fits.room.key } in
     let l = back.back in
-    ends_anew z u middle there back.view w room (goes_on_so z u m r v fits.room f back.middle back.kept back.view back.on) l.0 l.1 l.2 n desk l.3 (sym l.4)
+    ends_anew z u middle there back.view w room (goes_on_so z u m r v fits.room f back.middle back.kept back.view back.on) l.0 l.1 l.2 n read_set l.3 (sym l.4)

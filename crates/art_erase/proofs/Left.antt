@@ -2,35 +2,35 @@
 use Rattle.std.proofs.Common.{◌≡◌, ℕ, ◌-◌, ◌<◌, ◌≤◌, true, false, Some, refl, arith}
 use Rattle.std.specs.Prelude.{Result, Ok, Err, ⊤}
 use Rattle.art_attempt.proofs.Left.{ended_less as entered_less, tries_few, tries_some}
-use Rattle.art_attempt.specs.Inserting.{is_begun, is_last, making_left, tries_left}
+use Rattle.art_attempt.specs.Inserting.{is_begun, is_last, apply_left, tries_left}
 use Rattle.art_erase.specs.Erasing.{ended_left, erased_so, free_at, left_at}
 use Rattle.art_erase.specs.declared.erasing.Erased.TheVariants as erased
 use Rattle.art_erase.specs.declared.erasing.Stage.{Stage}
 use Rattle.art_erase.specs.declared.erasing.Stage.TheVariants as stage
-use Rattle.art_make.specs.Making.{ended_at, fault_of, most_steps}
-use Rattle.art_make.specs.declared.making.Making.{Making}
+use Rattle.art_make.specs.Apply.{ended_at, fault_of, most_steps}
+use Rattle.art_make.specs.declared.apply.Apply.{Apply}
 use Rattle.art_step.specs.declared.faults.Changed.{Changed}
 use Rattle.art_step.specs.declared.faults.UpgradeFault.{UpgradeFault}
 use Rattle.art_step.specs.declared.faults.UpgradeFault.TheVariants as fault
 
-making_free : (left : ℕ) (m : Making) → is_begun m ≡ true → making_left left m ≡ tries_left left
-making_free left m is = rw is refl
+apply_free : (left : ℕ) (m : Apply) → is_begun m ≡ true → apply_left left m ≡ tries_left left
+apply_free left m is = rw is refl
 
 -- at most as many as of attempts alone
-pub free_few : (left : ℕ) (s : Stage) (m : Making) → free_at s m ≡ true → left_at left s m ≤ tries_left left
+pub free_few : (left : ℕ) (s : Stage) (m : Apply) → free_at s m ≡ true → left_at left s m ≤ tries_left left
 free_few left stage.Finding m is = omega arith
-free_few left (stage.Supplying layout) m is = omega arith
+free_few left (stage.Reserve layout) m is = omega arith
 free_few left (stage.Reading q) m is = omega arith
 free_few left stage.Vouching m is = omega arith
 free_few left stage.Lowering m is = omega arith
-free_few left stage.Making m is = let same = making_free left m is in omega arith
+free_few left stage.Apply m is = let same = apply_free left m is in omega arith
 free_few left (stage.Ended (erased.Gone x)) m is = omega arith
 free_few left (stage.Ended erased.Absent) m is = omega arith
 free_few left (stage.Ended (erased.Exhausted x)) m is = omega arith
-free_few left (stage.Ended erased.Anew) m is = omega arith
+free_few left (stage.Ended erased.Restart) m is = omega arith
 
 -- one step was made, and nothing is held after it
-pub free_less : (left n : ℕ) (s : Stage) (m : Making) → 0 < left → n ≡ 1 → free_at s m ≡ true → left_at (left - n) s m < tries_left left
+pub free_less : (left n : ℕ) (s : Stage) (m : Apply) → 0 < left → n ≡ 1 → free_at s m ≡ true → left_at (left - n) s m < tries_left left
 free_less left n s m some one is =
     let few = free_few (left - n) s m is in
     let all = tries_some left some in
@@ -38,14 +38,14 @@ free_less left n s m some one is =
     omega arith
 
 -- it is tried anew where the change was given up for a cell that was changed
-pub anew_fault : (value : ℕ) (r : Result ⊤ UpgradeFault) → erased_so value r ≡ erased.Anew → (e : Changed) × (r ≡ Err (fault.Changed e))
+pub anew_fault : (value : ℕ) (r : Result ⊤ UpgradeFault) → erased_so value r ≡ erased.Restart → (e : Changed) × (r ≡ Err (fault.Changed e))
 anew_fault value (Ok done) is = absurd (cc)
 anew_fault value (Err (fault.Exhausted c)) is = absurd (cc)
 anew_fault value (Err (fault.Changed e)) is = (e, refl)
 
-module _ (left n value : ℕ) (m then : Making) (begun : is_begun m ≡ true → 0 < left) (few : most_steps m < 580) (stays : is_last (fault_of m) ≡ true → is_last (fault_of then) ≡ true) (some : is_last (fault_of then) ≡ false → 0 < n) where
+module _ (left n value : ℕ) (m then : Apply) (begun : is_begun m ≡ true → 0 < left) (few : most_steps m < 580) (stays : is_last (fault_of m) ≡ true → is_last (fault_of then) ≡ true) (some : is_last (fault_of then) ≡ false → 0 < n) where
   -- the change has ended
-  pub ended_less : (r : Result ⊤ UpgradeFault) → ended_at then ≡ Some r → ended_left (left - n) (erased_so value r) < making_left left m
+  pub ended_less : (r : Result ⊤ UpgradeFault) → ended_at then ≡ Some r → ended_left (left - n) (erased_so value r) < apply_left left m
   ended_less (Ok done) is = entered_less left n m then begun few stays some (Ok done) is
   ended_less (Err (fault.Exhausted e)) is = entered_less left n m then begun few stays some (Err (fault.Exhausted e)) is
   ended_less (Err (fault.Changed e)) is = entered_less left n m then begun few stays some (Err (fault.Changed e)) is

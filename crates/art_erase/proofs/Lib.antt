@@ -4,10 +4,11 @@ pub use Rattle.art_attempt.proofs.ArtPlan
 pub use Rattle.art_attempt.proofs.ArtFrame
 pub use Rattle.art_gather.proofs as ArtGather
 pub use Rattle.art_make.proofs as ArtMake
-mod Chosen
+pub mod Chosen
 pub mod Counts
 pub mod Finds
 pub mod Free
+pub mod Founds
 mod Heard
 mod Joins
 mod Left

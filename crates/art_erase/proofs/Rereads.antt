@@ -15,10 +15,10 @@ use Rattle.art_erase.proofs.Vouched.{reading_so}
 use Rattle.art_erase.specs.Erasing.{EndsWithin, IsLost, IsReadingOn, absent, reading_asks, reading_most}
 use Rattle.art_erase.specs.declared.erasing.Erasing.{Erasing}
 use Rattle.art_find.proofs.Keeping.{cell_fits}
-use Rattle.art_find.specs.Desks.{above_of, node_of}
+use Rattle.art_find.specs.ReadSets.{above_of, node_of}
 use Rattle.art_find.specs.Kept.{StaysRead}
 use Rattle.art_find.specs.Rereadings.{RereadingFits}
-use Rattle.art_find.specs.declared.desks.Desk.{Desk}
+use Rattle.art_find.specs.declared.read_sets.ReadSet.{ReadSet}
 use Rattle.art_find.specs.declared.rereadings.Rereading.{Rereading}
 use Rattle.art_gather.specs.ArtPlan.ChooseRemove.Losses.{loss_at}
 use Rattle.art_gather.specs.ArtPlan.declared.choose_remove.losses.Loss.TheVariants as loss
@@ -31,55 +31,55 @@ use Rattle.art_step.specs.declared.views.Sizes.{Sizes}
 use Rattle.art_step.specs.declared.views.View.{View}
 
 -- the word was noted, and the rereading has come further
-pub record IsNotedBy (m : Erasing) (r : Room) (q : Rereading) (word : ℕ) (q' : Rereading) (desk : Desk) : Type 0 where
+pub record IsNotedBy (m : Erasing) (r : Room) (q : Rereading) (word : ℕ) (q' : Rereading) (read_set : ReadSet) : Type 0 where
   pub steps : q.place < q'.place
-  pub above : above_of desk ≡ above_of r.desk
-  pub stays : word_read (node_of r.desk) q.place ≡ None → StaysRead (node_of r.desk) (node_of desk)
-  pub fits : (z : Sizes) (v w : View) → RereadingFits z v m.stand.stamp q (node_of r.desk) → q.place < size_of m.stand.stamp.cell
-      → Outcome z v w m.stand.stamp q.place word → RereadingFits z w m.stand.stamp q' (node_of desk)
+  pub above : above_of read_set ≡ above_of r.read_set
+  pub stays : word_read (node_of r.read_set) q.place ≡ None → StaysRead (node_of r.read_set) (node_of read_set)
+  pub fits : (z : Sizes) (v w : View) → RereadingFits z v m.position.stamp q (node_of r.read_set) → q.place < size_of m.position.stamp.cell
+      → Outcome z v w m.position.stamp q.place word → RereadingFits z w m.position.stamp q' (node_of read_set)
 
-module _ (z : Sizes) (u : View) (m : Erasing) (q q' : Rereading) (r : Room) (v w : View) (desk : Desk) (word : ℕ) (asked : Action) (answer : Answer) (h : IsReadingOn z u m q r v)
-    (more : q.place < size_of m.stand.stamp.cell) (is : reading_asks m q ≡ Some asked) (row : Answers z (telling (absent r.gone)) asked answer v w) (at : word ≡ word_in answer)
-    (noted : IsNotedBy m r q word q' desk) where
+module _ (z : Sizes) (u : View) (m : Erasing) (q q' : Rereading) (r : Room) (v w : View) (read_set : ReadSet) (word : ℕ) (asked : Action) (answer : Answer) (h : IsReadingOn z u m q r v)
+    (more : q.place < size_of m.position.stamp.cell) (is : reading_asks m q ≡ Some asked) (row : Answers z (telling (absent r.gone)) asked answer v w) (at : word ≡ word_in answer)
+    (noted : IsNotedBy m r q word q' read_set) where
   abbrev pub reread : Room
-  reread = record r { desk = desk }
+  reread = record r { read_set = read_set }
 
-  got : Outcome z v w m.stand.stamp q.place word
-  got = subst (λ (n : ℕ). Outcome z v w m.stand.stamp q.place n) (sym at) (read_told z (absent r.gone) m.stand.stamp q asked answer v w more is row)
+  got : Outcome z v w m.position.stamp q.place word
+  got = subst (λ (n : ℕ). Outcome z v w m.position.stamp q.place n) (sym at) (read_told z (absent r.gone) m.position.stamp q asked answer v w more is row)
 
-  now : RereadingFits z w m.stand.stamp q' (node_of desk)
+  now : RereadingFits z w m.position.stamp q' (node_of read_set)
   now = noted.fits z v w h.fits more got
 
   later : IsLater v w
-  later = cell_later z (absent r.gone) asked answer v w (reads_look m.stand.stamp q asked is) row
+  later = cell_later z (absent r.gone) asked answer v w (reads_look m.position.stamp q asked is) row
 
   past : IsLater h.early w
   past = later_then h.early v w h.later later
 
-  reads : IsVouching z r.gone.key.items m.stand desk h.early w
-  reads = here_on z r.gone.key.items m.stand r.desk desk h.early v w m.stand.stamp q.place word got h.reads noted.above now.kept
+  reads : IsVouching z r.gone.key.items m.position read_set h.early w
+  reads = here_on z r.gone.key.items m.position r.read_set read_set h.early v w m.position.stamp q.place word got h.reads noted.above now.kept
 
   spent : HasSpent z u (reading_most q') w
   spent limited =
       let spent = h.spent limited in
       let failed = later.failures in
-      let step = cell_step z (absent r.gone) asked answer v w (reads_look m.stand.stamp q asked is) row in
+      let step = cell_step z (absent r.gone) asked answer v w (reads_look m.position.stamp q asked is) row in
       let further = noted.steps in
-      let cell = cell_fits m.stand.stamp.cell in
+      let cell = cell_fits m.position.stamp.cell in
       omega (arith, spent, step, further, more, cell, failed)
 
   so : (n : ℕ) → HasSpent z u n w → EndsWithin z u n reread w
   so n few = reading_so z u h.early h.base reread w past h.has reads.reads n few
 
   -- the leaf stands there
-  pub reread_lost : IsLost z m.stand reread w
+  pub reread_lost : IsLost z m.position reread w
   reread_lost = record { standing = reads.standing; found = h.found }
 
   pub reread_so : EndsWithin z u 21700 reread w
   reread_so = so 21700 (λ limited. let few = spent limited in omega (arith, few))
 
   -- it goes as before
-  pub reread_on : loss_at m.stand desk ≡ loss.Merges → IsReadingOn z u m q' reread w
+  pub reread_on : loss_at m.position read_set ≡ loss.Merges → IsReadingOn z u m q' reread w
   reread_on merges = record {
     early = h.early;
     base = h.base;
@@ -93,23 +93,23 @@ module _ (z : Sizes) (u : View) (m : Erasing) (q q' : Rereading) (r : Room) (v w
   }
 
   -- the header was known before, and told that it goes
-  header_known : 2 ≤ q.place → loss_at m.stand desk ≡ loss.Merges
+  header_known : 2 ≤ q.place → loss_at m.position read_set ≡ loss.Merges
   header_known high =
-      let cell = cell_fits m.stand.stamp.cell in
+      let cell = cell_fits m.position.stamp.cell in
       let stays = noted.stays (h.fits.unknown (omega (arith, more, cell))) in
       let header = h.fits.known 1 (omega arith) (omega (arith, high)) in
-      loss_known m.stand r.desk desk header.0 header.1 stays ∙ h.merges
+      loss_known m.position r.read_set read_set header.0 header.1 stays ∙ h.merges
 
   -- so where it tells otherwise now, this was the first word that was read, and few steps were made
-  pub reread_first : loss_at m.stand desk ≢ loss.Merges → EndsWithin z u 1203 reread w
+  pub reread_first : loss_at m.position read_set ≢ loss.Merges → EndsWithin z u 1203 reread w
   reread_first other = so 1203 (λ limited.
       let spent = h.spent limited in
       let failed = later.failures in
-      let step = cell_step z (absent r.gone) asked answer v w (reads_look m.stand.stamp q asked is) row in
+      let step = cell_step z (absent r.gone) asked answer v w (reads_look m.position.stamp q asked is) row in
       ⊎_elim
       (λ (low : nat_lt q.place 2 ≡ true). let first = ltb-true q.place 2 low in omega (arith, spent, step, failed, first))
       (λ (high : nat_lt q.place 2 ≡ false). absurd (other (header_known (ltb-false q.place 2 high))))
       (cases_Bool (nat_lt q.place 2)))
 
-  pub reread_shrinks : (layout : Layout) → loss_at m.stand desk ≡ loss.Shrinks layout → EndsWithin z u 1203 reread w
+  pub reread_shrinks : (layout : Layout) → loss_at m.position read_set ≡ loss.Shrinks layout → EndsWithin z u 1203 reread w
   reread_shrinks layout shrinks = reread_first (λ merges. let no : loss.Shrinks layout ≡ loss.Merges = sym shrinks ∙ merges in cc)

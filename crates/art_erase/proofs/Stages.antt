@@ -20,8 +20,8 @@ module _ (z : Sizes) (u : View) (m : Erasing) (r : Room) (v : View) where
   pub is_finding : m.stage ≡ stage.Finding → Fits z u m r v → IsFinding z u m r v
   is_finding is fits = at_stage stage.Finding is fits
 
-  pub has_supplies : (layout : Layout) → m.stage ≡ stage.Supplying layout → Fits z u m r v → HasSupplies z u layout m r v
-  has_supplies layout is fits = (at_stage (stage.Supplying layout) is fits).0
+  pub has_supplies : (layout : Layout) → m.stage ≡ stage.Reserve layout → Fits z u m r v → HasSupplies z u layout m r v
+  has_supplies layout is fits = (at_stage (stage.Reserve layout) is fits).0
 
   pub reads_on : (q : Rereading) → m.stage ≡ stage.Reading q → Fits z u m r v → StageFits z u (stage.Reading q) m r v
   reads_on q is fits = at_stage (stage.Reading q) is fits
@@ -32,5 +32,5 @@ module _ (z : Sizes) (u : View) (m : Erasing) (r : Room) (v : View) where
   pub has_lower : m.stage ≡ stage.Lowering → Fits z u m r v → HasLower z u m r v
   has_lower is fits = (at_stage stage.Lowering is fits).0
 
-  pub has_made : m.stage ≡ stage.Making → Fits z u m r v → HasMade z u m r v
-  has_made is fits = (at_stage stage.Making is fits).0
+  pub has_made : m.stage ≡ stage.Apply → Fits z u m r v → HasMade z u m r v
+  has_made is fits = (at_stage stage.Apply is fits).0

@@ -7,28 +7,28 @@ ghost use Rattle.art_gather.specs.ArtPlan.ChooseRemove.Losses.{loss_at};
 ghost use Rattle.art_gather.specs.ArtPlan.ChooseRemove.Others.{NamesChild};
 ghost use Rattle.art_gather.specs.ArtPlan.ChooseRemove.Plans.{HasFound};
 ghost use Rattle.art_gather.specs.ArtPlan.declared.choose_remove.losses.Loss.TheVariants as losses;
-ghost use Rattle.art_erase.specs.Erasing.{EndsSo, EndsWithin, Fits, HasSupplies, IsAnewBy, IsChosen, IsFinding, IsKept, IsLost, IsReadingOn, IsRoom, LeavesOther};
+ghost use Rattle.art_erase.specs.Erasing.{EndsSo, EndsWithin, Fits, HasSupplies, IsRestartBy, IsChosen, IsFinding, IsKept, IsLost, IsReadingOn, IsRoom, LeavesOther};
 ghost use Rattle.art_erase.specs.Erasing.{absent, asks, check_of, ended_at, finding_asks, free_at, given_up, goes, is_free, reading_asks};
-ghost use Rattle.art_erase.specs.Erasing.{steps_left, supply_asks, wants_of};
-ghost use Rattle.art_erase.specs.declared.erasing.Erased.TheVariants.{Anew as anew};
+ghost use Rattle.art_erase.specs.Erasing.{steps_left, supply_asks, demand_of};
+ghost use Rattle.art_erase.specs.declared.erasing.Erased.TheVariants.{Restart as anew};
 ghost use Rattle.art_erase.specs.declared.erasing.Stage.TheVariants as stages;
 ghost use Rattle.art_attempt.specs.ArtFrame.Stocks.{HasStock};
 ghost use Rattle.art_attempt.specs.ArtGather.Vouching.{KnowsHere};
 ghost use Rattle.art_machine.specs.Acting.{Answers as ActionAnswers, goes_on, steps_in, telling};
 ghost use Rattle.art_machine.specs.declared.actions.Action.{Action as ActionOf};
-ghost use Rattle.art_find.specs.Findings.{stand_at};
+ghost use Rattle.art_find.specs.Findings.{position_at};
 ghost use Rattle.art_step.specs.Views.{size_of};
 ghost use Rattle.art_step.specs.declared.views.Sizes.{Sizes as SizesOf};
 ghost use Rattle.art_step.specs.declared.views.View.{View};
 
-use art_attempt::art_gather::{Supplied, Supplying, Vouched, Vouching, Wants};
+use art_attempt::art_gather::{Demand, Reserve, Reserved, Vouched, Vouching};
 use art_attempt::{Room, is_begun, nowhere};
 use art_cell::{Cell, Layout, Link, Node};
-use art_find::{Desk, Finding, Rereading, Stand, Verdict};
+use art_find::{Finding, Position, ReadSet, Rereading, Verdict};
 use art_gather::art_plan::{Loss, lost, other_child};
 use art_gather::{Lowered, Lowering};
 use art_machine::{Action, Answer};
-use art_make::Making;
+use art_make::Apply;
 use art_step::{Sizes, UpgradeFault};
 
 /// How an attempt of a removal ended.
@@ -41,7 +41,7 @@ pub enum Erased {
     /// The counter of a cell that was to be locked is at its end.
     Exhausted(Cell),
     /// A version word was locked, obsolete or changed: it may be tried anew.
-    Anew,
+    Restart,
 }
 
 /// What becomes of the cell that names the leaf.
@@ -54,7 +54,7 @@ pub enum Way {
     /// It gives way to its other child, this leaf.
     Merges(u32),
     /// It gives way to its other child, this node, at this byte.
-    Lowers(u8, Node),
+    Lowers { byte: u8, node: Node },
     /// The words that were read of it are those of no node, which its check is about to tell.
     Torn,
 }
@@ -65,7 +65,7 @@ pub enum Stage {
     /// The place of the key is sought.
     Finding,
     /// The number of a smaller node is sought, of this layout.
-    Supplying(Layout),
+    Reserve(Layout),
     /// The words of the node that are missing are read, to tell which child it keeps.
     Reading(Rereading),
     /// What is still to be read is read, and the cells are checked.
@@ -73,7 +73,7 @@ pub enum Stage {
     /// The same, with the node that takes the place of the one that goes.
     Lowering,
     /// The change is made.
-    Making,
+    Apply,
     Ended(Erased),
 }
 
@@ -83,13 +83,13 @@ pub struct Erasing {
     pub(crate) stage: Stage,
     pub(crate) finding: Finding,
     /// Where the key stands, once that is known.
-    pub(crate) stand: Stand,
+    pub(crate) position: Position,
     /// What becomes of the cell that names the leaf, once that is known.
     pub(crate) way: Way,
-    pub(crate) supplying: Supplying,
+    pub(crate) reserve: Reserve,
     pub(crate) vouching: Vouching,
     pub(crate) lowering: Lowering,
-    pub(crate) making: Making,
+    pub(crate) apply: Apply,
 }
 
 impl Erasing {
@@ -98,10 +98,10 @@ impl Erasing {
     ghost use Rattle.art_attempt.specs.declared.rooms.Room.{Room as RoomOf};
     ghost use Rattle.art_cell.specs.declared.layouts.Layout.{Layout as LayoutOf};
     ghost use Rattle.art_erase.specs.Erasing.{HasLower, HasMade, HasVouched, asks_at};
-    ghost use Rattle.art_attempt.specs.ArtGather.Supplying.{ended_at as supplied_at};
+    ghost use Rattle.art_attempt.specs.ArtGather.Reserve.{ended_at as reserved_at};
     ghost use Rattle.art_attempt.specs.ArtGather.Vouching.{ended_at as vouched_at};
     ghost use Rattle.art_gather.specs.Lowering.{ended_at as lowered_at};
-    ghost use Rattle.art_make.specs.Making.{ended_at as made_at};
+    ghost use Rattle.art_make.specs.Apply.{ended_at as made_at};
     ghost use Rattle.art_step.specs.declared.deeds.Deed.{Deed};
 
     /// At its beginning.
@@ -114,12 +114,12 @@ impl Erasing {
         Erasing {
             stage: Stage::Finding,
             finding: Finding::new(),
-            stand: nowhere(),
+            position: nowhere(),
             way: Way::Stays,
-            supplying: Supplying::Ended(Supplied::Ready),
+            reserve: Reserve::Ended(Reserved::Ready),
             vouching: Vouching::Ended(Vouched::Changed),
             lowering: Lowering::Ended(Lowered::Changed),
-            making: Making::Ended(Ok(())),
+            apply: Apply::Ended(Ok(())),
         }
     }
 
@@ -134,11 +134,11 @@ impl Erasing {
     {
         match self.stage {
             Stage::Finding => self.find_next(),
-            Stage::Supplying(_) => self.supply_next(room),
+            Stage::Reserve(_) => self.supply_next(room),
             Stage::Reading(rereading) => self.read_next(rereading),
             Stage::Vouching => self.vouch_next(),
             Stage::Lowering => self.lower_next(),
-            Stage::Making => self.make_next(room),
+            Stage::Apply => self.make_next(room),
             Stage::Ended(_) => None,
         }
     }
@@ -153,15 +153,15 @@ impl Erasing {
             Fits z u self.new room.new w }
         ensures left { (left : ℕ) → (is_free self.old ≡ true → 0 < left) →
             steps_left (left - steps_in answer) self.new < steps_left left self.old }
-        ensures anew { ended_at self.new ≡ Some anew → IsAnewBy self.old.stage self.new.making answer }
+        ensures anew { ended_at self.new ≡ Some anew → IsRestartBy self.old.stage self.new.apply answer }
     {
         match self.stage {
             Stage::Finding => self.find_told(room, answer),
-            Stage::Supplying(layout) => self.supply_told(room, layout, answer),
+            Stage::Reserve(layout) => self.supply_told(room, layout, answer),
             Stage::Reading(rereading) => self.read_told(room, rereading, answer),
             Stage::Vouching => self.vouch_told(room, answer),
             Stage::Lowering => self.lower_told(room, answer),
-            Stage::Making => self.make_told(room, answer),
+            Stage::Apply => self.make_told(room, answer),
             Stage::Ended(_) => {}
         }
     }
@@ -182,7 +182,7 @@ impl Erasing {
         ensures free { result ≡ true → ended_at self.now ≡ None → (z : SizesOf) (u v : View) (r : RoomOf) → Fits z u self.now r v →
             EndsSo z u r v }
     {
-        free_at(self.stage, &self.making)
+        free_at(self.stage, &self.apply)
     }
 
     /// What comes next on the way to the place of the key, and its check.
@@ -198,14 +198,13 @@ impl Erasing {
     /// What comes next where the number of a smaller node is sought.
     fn supply_next(&self, room: &Room) -> Option<Action>
         requires short { length room.now.gone.key.items ≤ 64 }
-        ensures asks { (k : LayoutOf) → result ≡ asks_at (stages.Supplying k) self.now room.now }
+        ensures asks { (k : LayoutOf) → result ≡ asks_at (stages.Reserve k) self.now room.now }
         ensures allowed { (z : SizesOf) (u v : View) (k : LayoutOf) (d : Deed) → HasSupplies z u k self.now room.now v →
             IfSome result (IsAllowed z d room.now.change v) }
         ensures going { (z : SizesOf) (u v : View) (k : LayoutOf) → HasSupplies z u k self.now room.now v →
-            supplied_at self.now.supplying ≡ None → (a : ActionOf) × (result ≡ Some a) }
+            reserved_at self.now.reserve ≡ None → (a : ActionOf) × (result ≡ Some a) }
     {
-        self.supplying
-            .next(room.gone.key.as_slice(), 0, &room.stock)
+        self.reserve.next(room.gone.key.as_slice(), 0, &room.stock)
     }
 
     /// What comes next where the node is read on.
@@ -214,9 +213,9 @@ impl Erasing {
         ensures allowed { (z : SizesOf) (u v : View) (r : RoomOf) (d : Deed) → IsReadingOn z u self.now rereading r v →
             IfSome result (IsAllowed z d r.change v) }
         ensures going { (z : SizesOf) (u v : View) (r : RoomOf) → IsReadingOn z u self.now rereading r v →
-            rereading.place < size_of self.now.stand.stamp.cell → (a : ActionOf) × (result ≡ Some a) }
+            rereading.place < size_of self.now.position.stamp.cell → (a : ActionOf) × (result ≡ Some a) }
     {
-        rereading.next(self.stand.stamp)
+        rereading.next(self.position.stamp)
     }
 
     /// What comes next where the cells are vouched for.
@@ -227,7 +226,7 @@ impl Erasing {
         ensures going { (z : SizesOf) (u v : View) (r : RoomOf) → HasVouched z u self.now r v → vouched_at self.now.vouching ≡ None →
             (a : ActionOf) × (result ≡ Some a) }
     {
-        self.vouching.next(&self.stand)
+        self.vouching.next(&self.position)
     }
 
     /// The same, with the lower node.
@@ -238,18 +237,18 @@ impl Erasing {
         ensures going { (z : SizesOf) (u v : View) (r : RoomOf) → HasLower z u self.now r v → lowered_at self.now.lowering ≡ None →
             (a : ActionOf) × (result ≡ Some a) }
     {
-        self.lowering.next(&self.stand)
+        self.lowering.next(&self.position)
     }
 
     /// What comes next where the change is made.
     fn make_next(&self, room: &Room) -> Option<Action>
-        ensures asks { result ≡ asks_at stages.Making self.now room.now }
+        ensures asks { result ≡ asks_at stages.Apply self.now room.now }
         ensures allowed { (z : SizesOf) (u v : View) (d : Deed) → HasMade z u self.now room.now v →
             IfSome result (IsAllowed z d room.now.change v) }
-        ensures going { (z : SizesOf) (u v : View) → HasMade z u self.now room.now v → made_at self.now.making ≡ None →
+        ensures going { (z : SizesOf) (u v : View) → HasMade z u self.now room.now v → made_at self.now.apply ≡ None →
             (a : ActionOf) × (result ≡ Some a) }
     {
-        self.making.next(&room.change)
+        self.apply.next(&room.change)
     }
 
     /// A cell was looked at on the way to the place of the key.
@@ -265,8 +264,8 @@ impl Erasing {
             finding_asks self.old.finding ≡ Some asked → ActionAnswers z (telling (absent room.old.gone)) asked answer v w →
             Fits z u self.new room.new w }
     {
-        match self.finding.stand() {
-            Some(stand) => self.settled(room, stand, answer),
+        match self.finding.position() {
+            Some(position) => self.settled(room, position, answer),
             None => self.find_on(room, answer),
         }
     }
@@ -274,7 +273,7 @@ impl Erasing {
     /// The descent goes on, or its way was changed.
     pub(crate) fn find_on(&mut self, room: &mut Room, answer: Answer)
         requires stage { self.old.stage ≡ stages.Finding }
-        requires nowhere { stand_at self.old.finding ≡ None }
+        requires nowhere { position_at self.old.finding ≡ None }
         requires told { (z : SizesOf) × (u : View) × (v : View) × (w : View) × (asked : ActionOf) × IsRoom z room.old ×
             IsFinding z u self.old room.old v × (finding_asks self.old.finding ≡ Some asked) ×
             ActionAnswers z (telling (absent room.old.gone)) asked answer v w }
@@ -287,30 +286,30 @@ impl Erasing {
     {
         let on = self
             .finding
-            .told(&mut room.desk, room.gone.key.as_slice(), answer);
+            .told(&mut room.read_set, room.gone.key.as_slice(), answer);
         if !on {
-            self.stage = Stage::Ended(Erased::Anew);
+            self.stage = Stage::Ended(Erased::Restart);
         }
     }
 
     /// The place of the key was checked.
-    pub(crate) fn settled(&mut self, room: &mut Room, stand: Stand, answer: Answer)
+    pub(crate) fn settled(&mut self, room: &mut Room, position: Position, answer: Answer)
         requires { (z : SizesOf) × (u : View) × (v : View) × (w : View) × IsRoom z room.old × IsFinding z u self.old room.old v ×
-            (stand_at self.old.finding ≡ Some stand) × ActionAnswers z (telling (absent room.old.gone)) (check_of stand) answer v w }
+            (position_at self.old.finding ≡ Some position) × ActionAnswers z (telling (absent room.old.gone)) (check_of position) answer v w }
         ensures kept { IsKept room.old room.new }
         ensures anew { ended_at self.new ≡ Some anew → goes_on answer ≡ false }
         ensures free { is_free self.new ≡ true }
         ensures fits { (z : SizesOf) (u v w : View) → IsRoom z room.old → IsFinding z u self.old room.old v →
-            stand_at self.old.finding ≡ Some stand → ActionAnswers z (telling (absent room.old.gone)) (check_of stand) answer v w →
+            position_at self.old.finding ≡ Some position → ActionAnswers z (telling (absent room.old.gone)) (check_of position) answer v w →
             Fits z u self.new room.new w }
     {
         if !answer.passed() {
-            self.stage = Stage::Ended(Erased::Anew);
+            self.stage = Stage::Ended(Erased::Restart);
             return;
         }
-        self.stand = stand;
-        match stand.verdict {
-            Verdict::Found(leaf, value) => {
+        self.position = position;
+        match position.verdict {
+            Verdict::Found { leaf, value } => {
                 room.gone.number = leaf;
                 room.gone.value = value;
                 self.choose(room);
@@ -322,25 +321,28 @@ impl Erasing {
     /// The leaf is there, and its place was checked: what goes with it says what comes next.
     fn choose(&mut self, room: &mut Room)
         requires { (z : SizesOf) × (u : View) × (v : View) × IsRoom z room.old × EndsWithin z u 1201 room.old v ×
-            IsLost z self.old.stand room.old v }
+            IsLost z self.old.position room.old v }
         ensures kept { IsKept room.old room.new }
         ensures not_anew { ended_at self.new ≢ Some anew }
         ensures free { is_free self.new ≡ true }
         ensures fits { (z : SizesOf) (u v : View) → IsRoom z room.old → EndsWithin z u 1201 room.old v →
-            IsLost z self.old.stand room.old v → Fits z u self.new room.new v }
+            IsLost z self.old.position room.old v → Fits z u self.new room.new v }
     {
-        match self.loss(&room.desk) {
+        match self.loss(&room.read_set) {
             Loss::Leaf => self.vouch(room, Way::Stays),
             Loss::Shrinks(layout) => self.supply(room, layout),
-            Loss::Merges => self.read_on(room, Rereading::new(room.desk.node())),
+            Loss::Merges => self.read_on(room, Rereading::new(room.read_set.node())),
         }
     }
 
     /// What goes with the leaf, by the words that were read.
-    fn loss(&self, desk: &Desk) -> Loss
-        ensures { result ≡ loss_at self.now.stand desk.now }
+    fn loss(&self, read_set: &ReadSet) -> Loss
+        ensures { result ≡ loss_at self.now.position read_set.now }
     {
-        lost(self.stand.stamp.cell, desk.node().get(1).unwrap_or(0))
+        lost(
+            self.position.stamp.cell,
+            read_set.node().get(1).unwrap_or(0),
+        )
     }
 
     /// A smaller node would do: its number is sought.
@@ -350,11 +352,11 @@ impl Erasing {
         ensures not_anew { ended_at self.new ≢ Some anew }
         ensures free { is_free self.new ≡ true }
         ensures fits { (z : SizesOf) (u v : View) → IsRoom z room.old → EndsWithin z u 1203 room.old v →
-            IsLost z self.old.stand room.old v → loss_at self.old.stand room.old.desk ≡ losses.Shrinks layout →
+            IsLost z self.old.position room.old v → loss_at self.old.position room.old.read_set ≡ losses.Shrinks layout →
             Fits z u self.new room.new v }
     {
-        let wants = wants_of(room.sizes, layout);
-        self.supplying = Supplying::new(&wants, &mut room.stock);
+        let demand = demand_of(room.sizes, layout);
+        self.reserve = Reserve::new(&demand, &mut room.stock);
         self.supply_on(room, layout);
     }
 
@@ -368,8 +370,8 @@ impl Erasing {
         ensures fits { (z : SizesOf) (u v w : View) (asked : ActionOf) → IsRoom z room.old → HasSupplies z u layout self.old room.old v →
             supply_asks self.old room.old ≡ Some asked → ActionAnswers z None asked answer v w → Fits z u self.new room.new w }
     {
-        let wants = wants_of(room.sizes, layout);
-        self.supplying.told(&wants, &mut room.stock, answer);
+        let demand = demand_of(room.sizes, layout);
+        self.reserve.told(&demand, &mut room.stock, answer);
         self.supply_on(room, layout);
     }
 
@@ -380,16 +382,16 @@ impl Erasing {
         ensures fits { (z : SizesOf) (u v : View) → IsRoom z room.now → HasSupplies z u layout self.old room.now v →
             Fits z u self.new room.now v }
     {
-        match self.supplying.ended() {
-            None => self.stage = Stage::Supplying(layout),
-            Some(Supplied::Ready) => self.vouch(room, Way::Shrinks(layout)),
-            Some(Supplied::Full(_)) => self.vouch(room, Way::Stays),
+        match self.reserve.ended() {
+            None => self.stage = Stage::Reserve(layout),
+            Some(Reserved::Ready) => self.vouch(room, Way::Shrinks(layout)),
+            Some(Reserved::Full(_)) => self.vouch(room, Way::Stays),
         }
     }
 
     /// A word of the node was read. Where its header was not known before, it is now, and may tell that the node stays, or shrinks.
     pub(crate) fn read_told(&mut self, room: &mut Room, rereading: Rereading, answer: Answer)
-        requires more { rereading.place < size_of self.old.stand.stamp.cell }
+        requires more { rereading.place < size_of self.old.position.stamp.cell }
         requires told { (z : SizesOf) × (u : View) × (v : View) × (w : View) × (asked : ActionOf) × IsRoom z room.old ×
             IsReadingOn z u self.old rereading room.old v × (reading_asks self.old rereading ≡ Some asked) ×
             ActionAnswers z (telling (absent room.old.gone)) asked answer v w }
@@ -401,8 +403,8 @@ impl Erasing {
             ActionAnswers z (telling (absent room.old.gone)) asked answer v w → Fits z u self.new room.new w }
     {
         let mut rereading = rereading;
-        room.desk.reread_node(&mut rereading, answer.found());
-        match self.loss(&room.desk) {
+        room.read_set.reread_node(&mut rereading, answer.found());
+        match self.loss(&room.read_set) {
             Loss::Leaf => self.vouch(room, Way::Stays),
             Loss::Shrinks(layout) => self.supply(room, layout),
             Loss::Merges => self.read_on(room, rereading),
@@ -411,13 +413,13 @@ impl Erasing {
 
     /// The node is read on, or all its words are known: it goes, and gives way to its other child.
     fn read_on(&mut self, room: &Room, rereading: Rereading)
-        requires { HasFound self.old.stand room.now.gone }
+        requires { HasFound self.old.position room.now.gone }
         ensures not_anew { ended_at self.new ≢ Some anew }
         ensures free { is_free self.new ≡ true }
         ensures fits { (z : SizesOf) (u v : View) → IsRoom z room.now → IsReadingOn z u self.old rereading room.now v →
             Fits z u self.new room.now v }
     {
-        match rereading.next(self.stand.stamp) {
+        match rereading.next(self.position.stamp) {
             Some(_) => self.stage = Stage::Reading(rereading),
             None => self.merge(room),
         }
@@ -425,14 +427,14 @@ impl Erasing {
 
     /// The node gives way to its other child.
     fn merge(&mut self, room: &Room)
-        requires { HasFound self.old.stand room.now.gone }
+        requires { HasFound self.old.position room.now.gone }
         ensures not_anew { ended_at self.new ≢ Some anew }
         ensures free { is_free self.new ≡ true }
         ensures fits { (z : SizesOf) (u v : View) → IsRoom z room.now → EndsWithin z u 21700 room.now v →
-            IsLost z self.old.stand room.now v → KnowsHere self.old.stand room.now.desk →
-            loss_at self.old.stand room.now.desk ≡ losses.Merges → Fits z u self.new room.now v }
+            IsLost z self.old.position room.now v → KnowsHere self.old.position room.now.read_set →
+            loss_at self.old.position room.now.read_set ≡ losses.Merges → Fits z u self.new room.now v }
     {
-        let Some((byte, link)) = other_child(&self.stand, &room.desk, &room.gone) else {
+        let Some((byte, link)) = other_child(&self.position, &room.read_set, &room.gone) else {
             self.vouch(room, Way::Torn);
             return;
         };
@@ -447,11 +449,11 @@ impl Erasing {
         ensures not_anew { ended_at self.new ≢ Some anew }
         ensures free { is_free self.new ≡ true }
         ensures fits { (z : SizesOf) (u v : View) → IsRoom z room.now → EndsWithin z u 21700 room.now v →
-            IsLost z self.old.stand room.now v → IsChosen z way self.old.stand room.now.desk room.now.gone room.now.stock u v →
+            IsLost z self.old.position room.now v → IsChosen z way self.old.position room.now.read_set room.now.gone room.now.stock u v →
             Fits z u self.new room.now v }
     {
         self.way = way;
-        self.vouching = Vouching::new(&self.stand, goes(way), &room.desk);
+        self.vouching = Vouching::new(&self.position, goes(way), &room.read_set);
         self.stage = Stage::Vouching;
     }
 
@@ -459,12 +461,12 @@ impl Erasing {
     fn lower(&mut self, byte: u8, node: Node)
         ensures not_anew { ended_at self.new ≢ Some anew }
         ensures free { is_free self.new ≡ true }
-        ensures fits { (z : SizesOf) (u v : View) (r : RoomOf) → IsRoom z r → EndsWithin z u 21700 r v → IsLost z self.old.stand r v →
-            KnowsHere self.old.stand r.desk → loss_at self.old.stand r.desk ≡ losses.Merges →
-            NamesChild self.old.stand r.desk (node_link node) → LeavesOther z self.old.stand r.desk r.gone byte (node_link node) →
+        ensures fits { (z : SizesOf) (u v : View) (r : RoomOf) → IsRoom z r → EndsWithin z u 21700 r v → IsLost z self.old.position r v →
+            KnowsHere self.old.position r.read_set → loss_at self.old.position r.read_set ≡ losses.Merges →
+            NamesChild self.old.position r.read_set (node_link node) → LeavesOther z self.old.position r.read_set r.gone byte (node_link node) →
             Fits z u self.new r v }
     {
-        self.way = Way::Lowers(byte, node);
+        self.way = Way::Lowers { byte, node };
         self.lowering = Lowering::new(node);
         self.stage = Stage::Lowering;
     }
@@ -474,37 +476,41 @@ impl Erasing {
 fn finding_asked(finding: &Finding) -> Option<Action>
     ensures { result ≡ finding_asks finding.now }
 {
-    match finding.stand() {
-        Some(stand) => Some(check_of(&stand)),
+    match finding.position() {
+        Some(position) => Some(check_of(&position)),
         None => finding.next(),
     }
 }
 
 /// Where no leaf has the key, a check tells that; of a leaf that has it a check tells nothing yet.
-pub(crate) fn check_of(stand: &Stand) -> Action
-    ensures { result ≡ check_of stand.now }
+pub(crate) fn check_of(position: &Position) -> Action
+    ensures { result ≡ check_of position.now }
 {
-    match stand.verdict {
-        Verdict::Found(_, _) => Action::Check { stamp: stand.stamp },
-        _ => Action::Settle { stamp: stand.stamp },
+    match position.verdict {
+        Verdict::Found { .. } => Action::Check {
+            stamp: position.stamp,
+        },
+        _ => Action::Settle {
+            stamp: position.stamp,
+        },
     }
 }
 
 /// Whether nothing is held at this stage.
-fn free_at(stage: Stage, making: &Making) -> bool
-    ensures { result ≡ free_at stage making.now }
+fn free_at(stage: Stage, apply: &Apply) -> bool
+    ensures { result ≡ free_at stage apply.now }
 {
     match stage {
-        Stage::Making => is_begun(making),
+        Stage::Apply => is_begun(apply),
         _ => true,
     }
 }
 
 /// What is wanted in hand for a smaller node.
-fn wants_of(sizes: Sizes, layout: Layout) -> Wants
-    ensures { result ≡ wants_of sizes layout }
+fn demand_of(sizes: Sizes, layout: Layout) -> Demand
+    ensures { result ≡ demand_of sizes layout }
 {
-    Wants {
+    Demand {
         leaf: false,
         node: Some(layout),
         sizes,
@@ -516,7 +522,7 @@ pub(crate) fn goes(way: Way) -> bool
     ensures { result ≡ goes way }
 {
     match way {
-        Way::Shrinks(_) | Way::Merges(_) | Way::Lowers(_, _) => true,
+        Way::Shrinks(_) | Way::Merges(_) | Way::Lowers { .. } => true,
         Way::Stays | Way::Torn => false,
     }
 }
@@ -526,7 +532,7 @@ pub(crate) fn given_up(fault: UpgradeFault) -> Erased
     ensures { result ≡ given_up fault }
 {
     match fault {
-        UpgradeFault::Changed(_) => Erased::Anew,
+        UpgradeFault::Changed(_) => Erased::Restart,
         UpgradeFault::Exhausted(cell) => Erased::Exhausted(cell),
     }
 }

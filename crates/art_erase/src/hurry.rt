@@ -28,9 +28,9 @@ impl Erasing {
             Fits (S.sizes steps.old) u self.new room.new (S.view steps.new) }
     {
         let key = room.gone.key.as_slice();
-        let on = self.finding.descend(steps, &mut room.desk, key, left);
+        let on = self.finding.descend(steps, &mut room.read_set, key, left);
         if !on {
-            self.stage = Stage::Ended(Erased::Anew);
+            self.stage = Stage::Ended(Erased::Restart);
         }
     }
 
@@ -52,17 +52,17 @@ impl Erasing {
         let Stage::Finding = self.stage else {
             return;
         };
-        let Some(stand) = self.finding.stand() else {
+        let Some(position) = self.finding.position() else {
             return;
         };
         if *left <= 1 {
             return;
         }
-        let Some(answer) = look(steps, check_of(&stand)) else {
+        let Some(answer) = look(steps, check_of(&position)) else {
             return;
         };
         *left -= 1;
-        self.settled(room, stand, answer);
+        self.settled(room, position, answer);
     }
 
     /// Makes steps until a smaller node is in hand, or none was found, as long as more than one turn is left.
@@ -81,11 +81,11 @@ impl Erasing {
             Fits (S.sizes steps.old) u self.new room.new (S.view steps.new) }
     {
         while *left > 1 {
-            let Stage::Supplying(layout) = self.stage else {
+            let Stage::Reserve(layout) = self.stage else {
                 return;
             };
             let key = room.gone.key.as_slice();
-            let Some(asked) = self.supplying.next(key, 0, &room.stock) else {
+            let Some(asked) = self.reserve.next(key, 0, &room.stock) else {
                 return;
             };
             let answer = perform(steps, asked, None);
@@ -112,7 +112,7 @@ impl Erasing {
             let Stage::Reading(rereading) = self.stage else {
                 return;
             };
-            let Some(asked) = rereading.next(self.stand.stamp) else {
+            let Some(asked) = rereading.next(self.position.stamp) else {
                 return;
             };
             let Some(answer) = look(steps, asked) else {
@@ -140,9 +140,9 @@ impl Erasing {
         read_cells(
             steps,
             &mut self.vouching,
-            &self.stand,
+            &self.position,
             goes(self.way),
-            &mut room.desk,
+            &mut room.read_set,
             left,
         );
     }
@@ -166,7 +166,7 @@ impl Erasing {
                 Stage::Vouching => {}
                 _ => return,
             }
-            let Some(asked) = self.vouching.next(&self.stand) else {
+            let Some(asked) = self.vouching.next(&self.position) else {
                 return;
             };
             let Some(answer) = look(steps, asked) else {
@@ -196,7 +196,7 @@ impl Erasing {
                 Stage::Lowering => {}
                 _ => return,
             }
-            let Some(asked) = self.lowering.next(&self.stand) else {
+            let Some(asked) = self.lowering.next(&self.position) else {
                 return;
             };
             let Some(answer) = look(steps, asked) else {
@@ -209,7 +209,7 @@ impl Erasing {
 
     /// Makes all steps that are left of the change; where no cell is locked yet, as long as more than one turn is left.
     fn make_all<S: EpochSteps>(&mut self, steps: &mut S, room: &mut Room, left: &mut u32)
-        requires stage { self.old.stage ≡ stages.Making }
+        requires stage { self.old.stage ≡ stages.Apply }
         requires turn { 0 < left.old }
         requires admitted { S.admits steps.old room.old.gone.key.items }
         requires fits { (u : View) × Fits (S.sizes steps.old) u self.old room.old (S.view steps.old) }
@@ -224,18 +224,18 @@ impl Erasing {
     {
         loop {
             match self.stage {
-                Stage::Making => {}
+                Stage::Apply => {}
                 _ => return,
             }
-            if self.making.is_writing() {
-                let written = self.making.write_on(steps, &room.change);
+            if self.apply.is_writing() {
+                let written = self.apply.write_on(steps, &room.change);
                 *left = left.saturating_sub(written);
                 continue;
             }
-            let Some(asked) = self.making.next(&room.change) else {
+            let Some(asked) = self.apply.next(&room.change) else {
                 return;
             };
-            if is_begun(&self.making) && *left <= 1 {
+            if is_begun(&self.apply) && *left <= 1 {
                 return;
             }
             let answer = perform(steps, asked, Some(&room.change.effects));
@@ -268,14 +268,14 @@ impl Erasing {
                 self.find_all(steps, room, left);
                 self.settle_on(steps, room, left);
             }
-            Stage::Supplying(_) => self.supply_all(steps, room, left),
+            Stage::Reserve(_) => self.supply_all(steps, room, left),
             Stage::Reading(_) => self.read_all(steps, room, left),
             Stage::Vouching => {
                 self.read_vouched(steps, room, left);
                 self.vouch_all(steps, room, left);
             }
             Stage::Lowering => self.lower_all(steps, room, left),
-            Stage::Making => self.make_all(steps, room, left),
+            Stage::Apply => self.make_all(steps, room, left),
             Stage::Ended(_) => {}
         }
     }

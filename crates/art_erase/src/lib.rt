@@ -11,7 +11,7 @@
 //! ```text
 //! Finding ──► the check of the place ──► what goes with the leaf (`lost` of `art_plan`)
 //!    │           │ Absent                  │ the leaf alone ─────────────────────────────► Vouching ─┬► plan ──► Making ──► Gone
-//!    │           │                         │ a smaller node would do ──► Supplying ──────►    │      │             │ Exhausted
+//!    │           │                         │ a smaller node would do ──► Reserve ──────►    │      │             │ Exhausted
 //!    │           │                         │ the node too ──► Reading ─┬─ other child: leaf ► │      │             │
 //!    │           │                         │                           └─ a node ► Lowering ──┼──────┘             │
 //!    └── Anew ◄──┴─────────────────────────┴──────────────────────────────────────────────────┴────────────────────┴──► Anew
@@ -26,7 +26,7 @@
 //! Once all is read and checked, there is a plan of each: its words are few, and a lower node is no cell above and has room for the
 //! longer prefix.
 //!
-//! An attempt that meets a version word that is locked, obsolete or another ends as `Anew`. The numbers that it took stay in hand.
+//! An attempt that meets a version word that is locked, obsolete or another ends as `Restart`. The numbers that it took stay in hand.
 //!
 //! # What stands beside it
 //!
@@ -40,10 +40,10 @@
 //! began (`EndFits`), with the grounds of each refusal.
 #![tactic(auto)]
 
+mod apply;
 mod driver;
 mod erasing;
 mod hurry;
-mod making;
 
 pub use art_attempt;
 pub use art_attempt::{art_frame, art_gather};

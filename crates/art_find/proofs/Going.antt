@@ -14,7 +14,7 @@ use Rattle.art_find.proofs.Counting.{answers_count, counts_on, few_steps}
 use Rattle.art_step.specs.declared.views.Sizes.{Sizes}
 use Rattle.art_step.specs.declared.views.View.{View}
 
--- a step that was asked for was made, and it goes on to another stage, or begins anew
+-- a step that was asked for was made, and it goes on to another stage, or restarts
 module _ (z z' : Sizes) (same : z' ≡ z) (k : List ℕ) (turns : ℕ) (u v w : View) (m m' : Descent) (t t' : Tally) (asked : Action) (answer : Answer)
     (before : GetGoes z k turns u v m t) (is : asks m.stage ≡ Some asked) (row : Answers z (telling (get_done k (answer_at m.stage))) asked answer v w) (left : t'.left + 1 ≡ t.left) where
   counted : (on : Bool) → goes_on answer ≡ on → Counted v w on

@@ -19,7 +19,7 @@ use Rattle.art_find.specs.declared.descents.Stage.TheVariants.{Start, Anchor, Ch
 use Rattle.art_find.proofs.Looks.{looked}
 use Rattle.art_find.proofs.Placing.{told_fits}
 use Rattle.art_find.specs.Findings.{FindingFits, HasHeard, IsHeard, Keeps, LookedOn, PlaceFits}
-use Rattle.art_find.specs.declared.desks.Desk.{Desk}
+use Rattle.art_find.specs.declared.read_sets.ReadSet.{ReadSet}
 use Rattle.art_find.specs.declared.findings.Finding.{Finding}
 use Rattle.art_step.proofs.Shows.{begun_rest, failed_rest}
 use Rattle.art_step.specs.Shows.{HasValue}
@@ -37,8 +37,8 @@ use Rattle.art_tree.specs.Heaps.{Cells}
 -- ---- what is asked for
 
 -- what its descent asks for may be made, where nothing is settled
-pub may_look : (z : Sizes) (k : List ℕ) (what : Option ℕ → Deed) (m : Finding) (desk : Desk) (u v : View) (a : Action) → asks m.descent.stage ≡ Some a → FindingFits z k what m desk u v → MayLook z (λ s. ⊤) v a
-may_look z k what m desk u v a is fits =
+pub may_look : (z : Sizes) (k : List ℕ) (what : Option ℕ → Deed) (m : Finding) (read_set : ReadSet) (u v : View) (a : Action) → asks m.descent.stage ≡ Some a → FindingFits z k what m read_set u v → MayLook z (λ s. ⊤) v a
+may_look z k what m read_set u v a is fits =
     let so : Cells → Type 0 = λ s. HasValue s k (answer_at m.descent.stage) in
     looked z v so a (subst (λ (o : Option Action). IfSome o (MayLook z so v)) is (allowed z k what m.descent.depth m.descent.stage u v fits.descent))
 
@@ -117,18 +117,18 @@ pub record CameTo (z : Sizes) (k : List ℕ) (asked : Action) (answer : Answer) 
   pub exact : IsExact n.stage
   pub fits : (what : Option ℕ → Deed) (u : View) → Fits z k what m u v → Fits z k what n u w
 
-module _ (z : Sizes) (k : List ℕ) (on : Bool) (m m' : Finding) (desk desk' : Desk) (v w : View) (asked : Action) (answer : Answer)
+module _ (z : Sizes) (k : List ℕ) (on : Bool) (m m' : Finding) (read_set read_set' : ReadSet) (v w : View) (asked : Action) (answer : Answer)
     (is : asks m.descent.stage ≡ Some asked) (row : (d : Deed) → Answers z (telling d) asked answer v w) where
-  placed : (n : Descent) → m'.descent ≡ n → CameTo z k asked answer m.descent n v w → Keeps answer (asks m.descent.stage) (asks n.stage) n.depth m.above desk m'.above desk'
-      → (what : Option ℕ → Deed) (u : View) → FindingFits z k what m desk u v → PlaceFits z k m'.above desk' w (stands_on m'.descent.stage)
+  placed : (n : Descent) → m'.descent ≡ n → CameTo z k asked answer m.descent n v w → Keeps answer (asks m.descent.stage) (asks n.stage) n.depth m.above read_set m'.above read_set'
+      → (what : Option ℕ → Deed) (u : View) → FindingFits z k what m read_set u v → PlaceFits z k m'.above read_set' w (stands_on m'.descent.stage)
   placed n same came keeps what u before =
       let so : Cells → Type 0 = λ s. HasValue s k (answer_at m.descent.stage) in
       let may : MayLook z so v asked = subst (λ (o : Option Action). IfSome o (MayLook z so v)) is (allowed z k what m.descent.depth m.descent.stage u v before.descent) in
-      subst (λ (d : Descent). PlaceFits z k m'.above desk' w (stands_on d.stage)) (sym same)
-      (told_fits z k what u v w m.above m'.above desk desk' m.descent n so asked is answer (row (what (answer_at m.descent.stage))) may before.descent came.stays came.anew keeps before.place)
+      subst (λ (d : Descent). PlaceFits z k m'.above read_set' w (stands_on d.stage)) (sym same)
+      (told_fits z k what u v w m.above m'.above read_set read_set' m.descent n so asked is answer (row (what (answer_at m.descent.stage))) may before.descent came.stays came.anew keeps before.place)
 
-  pub heard : (n : Descent) → m'.descent ≡ n → CameTo z k asked answer m.descent n v w → Keeps answer (asks m.descent.stage) (asks n.stage) n.depth m.above desk m'.above desk'
-      → HasHeard z k answer m desk v m' desk' w
+  pub heard : (n : Descent) → m'.descent ≡ n → CameTo z k asked answer m.descent n v w → Keeps answer (asks m.descent.stage) (asks n.stage) n.depth m.above read_set m'.above read_set'
+      → HasHeard z k answer m read_set v m' read_set' w
   heard n same came keeps = record {
     further = λ goes. subst (λ (d : Descent). most_steps m.descent.depth m.descent.stage < most_steps d.depth d.stage) (sym same) (came.further goes);
     anew = λ off. subst (λ (d : Descent). most_steps d.depth d.stage ≡ 0) (sym same) (came.anew off);
@@ -141,7 +141,7 @@ module _ (z : Sizes) (k : List ℕ) (on : Bool) (m m' : Finding) (desk desk' : D
     };
   }
 
-  pub looked_on : on ≡ goes_on answer → HasHeard z k answer m desk v m' desk' w → LookedOn z k on m desk v m' desk' w
+  pub looked_on : on ≡ goes_on answer → HasHeard z k answer m read_set v m' read_set' w → LookedOn z k on m read_set v m' read_set' w
   looked_on goes has = (asked, answer, record { asked_it = is; row = row }, has, goes)
 
 -- a word was heard
@@ -159,9 +159,9 @@ word_came z k v w m n asked word is row further stays going exact fits = record 
 }
 
 -- nothing is kept of a word of a leaf
-pub leaf_heard : (z : Sizes) (k : List ℕ) (v w : View) (m : Finding) (n : Descent) (desk : Desk) (x : Stamp) (l i word : ℕ) → asks m.descent.stage ≡ Some (ReadLeaf x l i) → read.LeafOutcome v w x l i word
-    → CameTo z k (ReadLeaf x l i) (Word word) m.descent n v w → LookedOn z k true m desk v (record m { descent = n }) desk w
-leaf_heard z k v w m n desk x l i word is row came =
-    let kept : IsHeard (asks m.descent.stage) word desk desk = subst (λ (o : Option Action). IsHeard o word desk desk) (sym is) (record { node = refl; above = refl }) in
-    looked_on z k true m (record m { descent = n }) desk desk v w (ReadLeaf x l i) (Word word) is (λ d. row) refl
-    (heard z k true m (record m { descent = n }) desk desk v w (ReadLeaf x l i) (Word word) is (λ d. row) n refl came (refl, kept))
+pub leaf_heard : (z : Sizes) (k : List ℕ) (v w : View) (m : Finding) (n : Descent) (read_set : ReadSet) (x : Stamp) (l i word : ℕ) → asks m.descent.stage ≡ Some (ReadLeaf x l i) → read.LeafOutcome v w x l i word
+    → CameTo z k (ReadLeaf x l i) (Word word) m.descent n v w → LookedOn z k true m read_set v (record m { descent = n }) read_set w
+leaf_heard z k v w m n read_set x l i word is row came =
+    let kept : IsHeard (asks m.descent.stage) word read_set read_set = subst (λ (o : Option Action). IsHeard o word read_set read_set) (sym is) (record { node = refl; above = refl }) in
+    looked_on z k true m (record m { descent = n }) read_set read_set v w (ReadLeaf x l i) (Word word) is (λ d. row) refl
+    (heard z k true m (record m { descent = n }) read_set read_set v w (ReadLeaf x l i) (Word word) is (λ d. row) n refl came (refl, kept))

@@ -8,7 +8,7 @@ use Rattle.art_cell.specs.Words.{packed}
 use Rattle.art_find.specs.Compares.{HasByte, IsWithin}
 use Rattle.art_find.specs.Verdicts.{Says}
 use Rattle.art_find.specs.Ways.{HasHeader, IsAtLeaf, IsPassed, count_in}
-use Rattle.art_find.specs.declared.verdicts.Verdict.TheVariants.{Found, Empty, OtherLeaf, OtherPrefix, Overlaps}
+use Rattle.art_find.specs.declared.verdicts.Verdict.TheVariants.{Found, Empty, LeafMismatch, PrefixMismatch, Overlaps}
 use Rattle.art_find.proofs.ComparedWords.{above_other, below_other}
 use Rattle.art_find.proofs.LeafKeys.{leaf_ends, leaf_found, leaf_goes_on, leaf_parts}
 use Rattle.art_find.proofs.NodeWords.{ends_within}
@@ -50,7 +50,7 @@ module _ (z : Sizes) (k : List ℕ) (depth : ℕ) (w : View) where
         ends_within z s n k depth header shape is.on deep (count_in header) (omega arith) (omega (arith, within, over)) is.same
 
     pub judged_below : (at : ℕ) → y.cell ≡ cell.Node n → IsWithin k depth (count_in header) (Below at) → Shows z w y (λ s. PrefixRead s n k depth header (Below at))
-        → Says z k depth y (OtherPrefix n header at) w
+        → Says z k depth y (PrefixMismatch n header at) w
     judged_below at is within shows = (
       is,
       within.0,
@@ -62,7 +62,7 @@ module _ (z : Sizes) (k : List ℕ) (depth : ℕ) (w : View) where
 
     -- a byte of it is above the key's, or the key has ended there
     module _ (at : ℕ) (within : IsWithin k depth (count_in header) (Above at)) (shows : Shows z w y (λ s. PrefixRead s n k depth header (Above at))) where
-      pub judged_above : y.cell ≡ cell.Node n → depth + at < length k → Says z k depth y (OtherPrefix n header at) w
+      pub judged_above : y.cell ≡ cell.Node n → depth + at < length k → Says z k depth y (PrefixMismatch n header at) w
       judged_above is low = (
         is,
         within.0,
@@ -91,7 +91,7 @@ module _ (z : Sizes) (k : List ℕ) (depth : ℕ) (w : View) where
       pub judged_begins : count ≢ length k → Says z k depth x Overlaps w
       judged_begins apart s shape holds = let read = shows s shape holds in leaf_ends z s x.cell l k depth value count shape read.leaf read.is_count apart read.compared
 
-    pub judged_leaf_below : (at : ℕ) → depth ≤ length k → IsWithin k 0 count (Below at) → Shows z w x (λ s. KeyRead s x.cell l k depth value count (Below at) byte) → Says z k depth x (OtherLeaf l at byte) w
+    pub judged_leaf_below : (at : ℕ) → depth ≤ length k → IsWithin k 0 count (Below at) → Shows z w x (λ s. KeyRead s x.cell l k depth value count (Below at) byte) → Says z k depth x (LeafMismatch l at byte) w
     judged_leaf_below at deep within shows = (
       inside,
       omega (arith, within.1),
@@ -102,7 +102,7 @@ module _ (z : Sizes) (k : List ℕ) (depth : ℕ) (w : View) where
 
     -- one of its bytes is above the key's, or the key has ended there
     module _ (at : ℕ) (within : IsWithin k 0 count (Above at)) (shows : Shows z w x (λ s. KeyRead s x.cell l k depth value count (Above at) byte)) where
-      pub judged_leaf_above : depth ≤ length k → at < length k → Says z k depth x (OtherLeaf l at byte) w
+      pub judged_leaf_above : depth ≤ length k → at < length k → Says z k depth x (LeafMismatch l at byte) w
       judged_leaf_above deep low = (
         inside,
         low,

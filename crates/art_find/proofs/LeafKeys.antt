@@ -9,7 +9,7 @@ use Rattle.art_cell.specs.declared.cells.Cell.{Cell}
 use Rattle.art_cell.specs.declared.cells.Cell.TheVariants as cell
 use Rattle.art_cell.specs.Lemmas.Packed.{byte_of_below}
 use Rattle.art_cell.specs.Words.{Words, packed}
-use Rattle.art_find.specs.Verdicts.{HasOverlap, IsFound, IsOtherLeaf, PartsAt}
+use Rattle.art_find.specs.Verdicts.{HasOverlap, IsFound, IsLeafMismatch, PartsAt}
 use Rattle.art_find.specs.Ways.{IsAtLeaf}
 use Rattle.art_find.proofs.NodeWords.{begins_take}
 use Rattle.art_path.specs.Compared.{AreSame}
@@ -92,7 +92,7 @@ module _ (z : Sizes) (s : Cells) (c : Cell) (l : ℕ) (k : List ℕ) (depth valu
       }
 
   -- it parts from the key
-  pub leaf_parts : (at byte : ℕ) → depth ≤ length k → at < count → AreSame (packed v 2) at k 0 → packed v 2 at ≢ get_or k (0 + at) 0 → packed v 2 at ≡ byte → IsOtherLeaf s c l k depth at byte
+  pub leaf_parts : (at byte : ℕ) → depth ≤ length k → at < count → AreSame (packed v 2) at k 0 → packed v 2 at ≢ get_or k (0 + at) 0 → packed v 2 at ≡ byte → IsLeafMismatch s c l k depth at byte
   leaf_parts at a deep low same apart is =
       let j = (heap_of s).key l in
       let other : packed v 2 at ≢ get_or k at 0 = λ e. apart (e ∙ ap (λ (i : ℕ). get_or k i 0) (omega arith)) in

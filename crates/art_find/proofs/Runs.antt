@@ -21,13 +21,14 @@ use Rattle.art_step.specs.declared.views.View.{View}
 -- ---- views
 
 pub none_made : (v : View) → HasReadOnly v v 0
-none_made v = record { rest = refl; failures = refl; steps = omega arith; grows = record { stamps = λ x i. i; notes = λ y i. i } }
+none_made v = record { rest = refl; failures = refl; steps = omega arith; found = refl; grows = record { stamps = λ x i. i; notes = λ y i. i } }
 
 pub reads_then : (u v w : View) (n k : ℕ) → HasReadOnly u v n → HasReadOnly v w k → HasReadOnly u w (n + k)
 reads_then u v w n k first second = record {
   rest = second.rest ∙ first.rest;
   failures = second.failures ∙ first.failures;
   steps = let a = first.steps in let b = second.steps in omega (arith, a, b);
+  found = second.found ∙ first.found;
   grows = record { stamps = λ x i. second.grows.stamps x (first.grows.stamps x i); notes = λ y i. second.grows.notes y (first.grows.notes y i) };
 }
 
@@ -36,6 +37,7 @@ one_read z v w x place word row = record {
   rest = read_rest v w x (Word place word) row.is;
   failures = ap (λ (y : View). y.failures) row.is;
   steps = ap (λ (y : View). y.steps) row.is;
+  found = ap (λ (y : View). y.found) row.is;
   grows = read_grows v w x (Word place word) row.is;
 }
 

@@ -212,15 +212,15 @@ module _ (z : Sizes) (k : List ℕ) (what : Option ℕ → Deed) (depth : ℕ) (
         },
       )
 
-      free_slot : link_of word ≡ None → Says z k depth y (verdict.Free n header) w
+      free_slot : link_of word ≡ None → Says z k depth y (verdict.NoChild n header) w
       free_slot none = (on.cell, deep, λ s shape holds. let at = shows s shape holds in names_none z s n k depth header shape at.past deep small place word at.tells (is s shape holds) none)
 
-      pub free_slot_fits : link_of word ≡ None → StageFits z k what depth (Decided y (verdict.Free n header)) u w
-      free_slot_fits none = node_decided (verdict.Free n header) (omega arith) (free_slot none)
+      pub free_slot_fits : link_of word ≡ None → StageFits z k what depth (Decided y (verdict.NoChild n header)) u w
+      free_slot_fits none = node_decided (verdict.NoChild n header) (omega arith) (free_slot none)
 
       -- the same, where it is not said which place is free
       pub empty_slot_fits : link_of word ≡ None → StageFits z k what depth (Decided y verdict.Absent) u w
-      empty_slot_fits none = node_decided verdict.Absent (omega arith) (says_value z k depth y (verdict.Free n header) w (free_slot none))
+      empty_slot_fits none = node_decided verdict.Absent (omega arith) (says_value z k depth y (verdict.NoChild n header) w (free_slot none))
 
   module _ (seen : NodeSeen) (on : IsOn z u w seen.stamp seen.node) where
     abbrev y : Stamp
@@ -309,10 +309,10 @@ module _ (z : Sizes) (k : List ℕ) (what : Option ℕ → Deed) (depth : ℕ) (
         prefix_within : (t : Compared) → r ≡ t → IsWithin k depth (count_in seen.header) t
         prefix_within t e = subst (IsWithin k depth (count_in seen.header)) e (subst (λ (i : ℕ). IsWithin k depth i r) (omega (arith, last, more)) tells.within)
 
-        pub prefix_below : (at : ℕ) → r ≡ compares.Below at → StageFits z k what depth (Decided y (verdict.OtherPrefix n seen.header at)) u w
+        pub prefix_below : (at : ℕ) → r ≡ compares.Below at → StageFits z k what depth (Decided y (verdict.PrefixMismatch n seen.header at)) u w
         prefix_below at e = (on.reads, deep, on.stamp, judged_below z k depth w y n seen.header deep at on.cell (prefix_within (compares.Below at) e) (prefix_read (compares.Below at) e))
 
-        pub prefix_above : (at : ℕ) (found : Verdict) → r ≡ compares.Above at → (depth + at < length k → found ≡ verdict.OtherPrefix n seen.header at) → (length k ≤ depth + at → found ≡ verdict.Overlaps)
+        pub prefix_above : (at : ℕ) (found : Verdict) → r ≡ compares.Above at → (depth + at < length k → found ≡ verdict.PrefixMismatch n seen.header at) → (length k ≤ depth + at → found ≡ verdict.Overlaps)
             → StageFits z k what depth (Decided y found) u w
         prefix_above at found e has ends =
             let t = compares.Above at in
@@ -404,11 +404,11 @@ module _ (z : Sizes) (k : List ℕ) (what : Option ℕ → Deed) (depth : ℕ) (
       pub bytes_begin : r.compared ≡ Same → seen.count ≢ length k → StageFits z k what depth (Decided x verdict.Overlaps) u w
       bytes_begin same apart = (on.reads, deep, on.stamp, judged_begins z k depth w x l seen.value seen.count r.byte on.inside (key_read Same same) apart)
 
-      pub bytes_below : (at : ℕ) → r.compared ≡ compares.Below at → StageFits z k what depth (Decided x (verdict.OtherLeaf l at r.byte)) u w
+      pub bytes_below : (at : ℕ) → r.compared ≡ compares.Below at → StageFits z k what depth (Decided x (verdict.LeafMismatch l at r.byte)) u w
       bytes_below at e =
           (on.reads, deep, on.stamp, judged_leaf_below z k depth w x l seen.value seen.count r.byte on.inside at deep (key_within (compares.Below at) e) (key_read (compares.Below at) e))
 
-      pub bytes_above : (at : ℕ) (found : Verdict) → r.compared ≡ compares.Above at → (at < length k → found ≡ verdict.OtherLeaf l at r.byte) → (length k ≤ at → found ≡ verdict.Overlaps) → StageFits z k what depth (Decided x found) u w
+      pub bytes_above : (at : ℕ) (found : Verdict) → r.compared ≡ compares.Above at → (at < length k → found ≡ verdict.LeafMismatch l at r.byte) → (length k ≤ at → found ≡ verdict.Overlaps) → StageFits z k what depth (Decided x found) u w
       bytes_above at found e has ends =
           let t = compares.Above at in
           let within = key_within t e in

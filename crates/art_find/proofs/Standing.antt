@@ -5,19 +5,19 @@ use Rattle.art_find.specs.Descents.{IsReading, StageFits, decided_at, stands_on}
 use Rattle.art_find.specs.declared.descents.Stage.{Stage}
 use Rattle.art_find.specs.declared.descents.Stage.TheVariants.{Start, Anchor, Child, Below, Both, Header, Prefix, Keys, Slot, Value, Length, Bytes, Decided, Ended}
 use Rattle.art_find.specs.declared.verdicts.Verdict.{Verdict}
-use Rattle.art_find.specs.Findings.{FindingFits, IsStanding, PlaceFits, stand_of}
-use Rattle.art_find.specs.declared.desks.Desk.{Desk}
+use Rattle.art_find.specs.Findings.{FindingFits, IsStanding, PlaceFits, position_of}
+use Rattle.art_find.specs.declared.read_sets.ReadSet.{ReadSet}
 use Rattle.art_find.specs.declared.findings.Finding.{Finding}
 use Rattle.art_step.specs.declared.deeds.Deed.{Deed}
 use Rattle.art_step.specs.declared.views.Sizes.{Sizes}
 use Rattle.art_step.specs.declared.views.Stamp.{Stamp}
 use Rattle.art_step.specs.declared.views.View.{View}
 
-module _ (z : Sizes) (k : List ℕ) (what : Option ℕ → Deed) (m : Finding) (desk : Desk) (u v : View) where
+module _ (z : Sizes) (k : List ℕ) (what : Option ℕ → Deed) (m : Finding) (read_set : ReadSet) (u v : View) where
   abbrev Stood : Stamp × Verdict → Type 0
-  Stood found = IsReading u v × IsStanding z k (stand_of m found) desk v
+  Stood found = IsReading u v × IsStanding z k (position_of m found) read_set v
 
-  by_stage : (s : Stage) (found : Stamp × Verdict) → StageFits z k what m.descent.depth s u v → PlaceFits z k m.above desk v (stands_on s) → decided_at s ≡ Some found → Stood found
+  by_stage : (s : Stage) (found : Stamp × Verdict) → StageFits z k what m.descent.depth s u v → PlaceFits z k m.above read_set v (stands_on s) → decided_at s ≡ Some found → Stood found
   by_stage Start found fits place is = absurd (cc)
   by_stage (Anchor x) found fits place is = absurd (cc)
   by_stage (Child x d) found fits place is = absurd (cc)
@@ -35,5 +35,5 @@ module _ (z : Sizes) (k : List ℕ) (what : Option ℕ → Deed) (m : Finding) (
   by_stage (Ended o) found fits place is = absurd (cc)
 
   -- so much the descent shows at its verdict, and what was kept on the way
-  pub decided_stands : (found : Stamp × Verdict) → FindingFits z k what m desk u v → decided_at m.descent.stage ≡ Some found → Stood found
+  pub decided_stands : (found : Stamp × Verdict) → FindingFits z k what m read_set u v → decided_at m.descent.stage ≡ Some found → Stood found
   decided_stands found fits = by_stage m.descent.stage found fits.descent fits.place

@@ -2,9 +2,9 @@
 use Rattle.std.proofs.Common.{◌≡◌, ◌≢◌, ℕ, suc, ◌<◌, List, [], ◌∷◌, ◌++◌, length, get_or, take, Some, None, ⊎_elim, sym, ap, ◌∙◌, subst, arith}
 use Rattle.std.proofs.Math.Seq.{take-suc}
 use Rattle.art_cell.specs.declared.cells.Cell.{Cell}
-use Rattle.art_find.specs.Verdicts.{HasOverlap, IsFound, IsOtherLeaf, PartsAt, Says, value_of}
+use Rattle.art_find.specs.Verdicts.{HasOverlap, IsFound, IsLeafMismatch, PartsAt, Says, value_of}
 use Rattle.art_find.specs.declared.verdicts.Verdict.{Verdict}
-use Rattle.art_find.specs.declared.verdicts.Verdict.TheVariants.{Found, Empty, OtherLeaf, OtherPrefix, Free, Overlaps, Torn, Absent}
+use Rattle.art_find.specs.declared.verdicts.Verdict.TheVariants.{Found, Empty, LeafMismatch, PrefixMismatch, NoChild, Overlaps, Torn, Absent}
 use Rattle.art_find.proofs.NodeWords.{begins_take, differs, free_byte}
 use Rattle.art_step.specs.Knowledge.{IsShape}
 use Rattle.art_step.specs.Shows.{HasValue, Shows}
@@ -35,7 +35,7 @@ module _ (z : Sizes) (s : Cells) (k : List ℕ) (shape : IsShape z s) where
   found_value : (c : Cell) (l depth value : ℕ) → IsFound s c l k depth value → HasValue s k (Some value)
   found_value c l depth value is = row_value s k value record { number = l; path = take depth k; at = is.child.at; key = is.is_key; value = is.is_value }
 
-  other_leaf_value : (c : Cell) (l depth at byte : ℕ) → at < length k → IsOtherLeaf s c l k depth at byte → HasValue s k None
+  other_leaf_value : (c : Cell) (l depth at byte : ℕ) → at < length k → IsLeafMismatch s c l k depth at byte → HasValue s k None
   other_leaf_value c l depth at byte low is =
       absent_value s k ((descends (heap_of s) k shape.tree).other l (take depth k) is.child.at (begins_take depth k) (parts_other k ((heap_of s).key l) at byte low is.parts))
 
@@ -48,10 +48,10 @@ module _ (z : Sizes) (s : Cells) (k : List ℕ) (shape : IsShape z s) where
 pub says_value : (z : Sizes) (k : List ℕ) (depth : ℕ) (x : Stamp) (found : Verdict) (v : View) → Says z k depth x found v → Shows z v x (λ s. HasValue s k (value_of found))
 says_value z k depth x (Found l value) v says = shows_then z v x _ _ (λ s shape is. found_value z s k shape x.cell l depth value is) says.1
 says_value z k depth x Empty v says = shows_then z v x _ _ (λ s shape is. absent_value s k (absent_empty (heap_of s) k is)) says.1
-says_value z k depth x (OtherLeaf l at byte) v says = shows_then z v x _ _ (λ s shape is. other_leaf_value z s k shape x.cell l depth at byte says.1 is) says.2
-says_value z k depth x (OtherPrefix n header at) v says =
+says_value z k depth x (LeafMismatch l at byte) v says = shows_then z v x _ _ (λ s shape is. other_leaf_value z s k shape x.cell l depth at byte says.1 is) says.2
+says_value z k depth x (PrefixMismatch n header at) v says =
     shows_then z v x _ _ (λ s shape is. differs z s n k depth header shape is.on (omega (arith, says.2)) (λ are. is.other (are.same at says.1))) says.3
-says_value z k depth x (Free n header) v says = shows_then z v x _ _ (λ s shape is. free_byte z s n k depth header shape is.past says.1 is.free) says.2
+says_value z k depth x (NoChild n header) v says = shows_then z v x _ _ (λ s shape is. free_byte z s n k depth header shape is.past says.1 is.free) says.2
 says_value z k depth x Overlaps v says = shows_then z v x _ _ (λ s shape is. overlap_value z s k shape is) says
 says_value z k depth x Torn v says = λ s shape holds. absurd (says s shape holds)
 says_value z k depth x Absent v says = says

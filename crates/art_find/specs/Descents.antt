@@ -116,7 +116,7 @@ stage_checked stage = stage
 abbrev pub staged : Sought → NodeSeen → Stage
 staged (sought.Keys i) seen = Keys seen i
 staged (sought.Child place) seen = Slot seen place
-staged sought.Nothing seen = Decided seen.stamp (verdict.Free seen.node seen.header)
+staged sought.Nothing seen = Decided seen.stamp (verdict.NoChild seen.node seen.header)
 
 -- ---- how far it has come
 

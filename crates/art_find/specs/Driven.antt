@@ -15,7 +15,7 @@ use Rattle.art_step.specs.declared.views.View.{View}
 abbrev pub get_done : List ℕ → Option ℕ → Deed
 get_done k o = Done (Get (key_of k)) (by_value o reply.Found reply.Absent)
 
--- how often it began anew, after a step that went on or did not
+-- how often it restarted, after a step that went on or did not
 abbrev pub restarts_after : ℕ → Bool → ℕ
 restarts_after n went_on = if went_on then n else n + 1
 

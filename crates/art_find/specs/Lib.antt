@@ -1,7 +1,7 @@
 pub mod Asking
 pub mod Compares
 pub mod Descents
-pub mod Desks
+pub mod ReadSets
 pub mod Driven
 pub mod Findings
 pub mod Kept

@@ -21,6 +21,7 @@ pub record HasReadOnly (v w : View) (n : ℕ) : Type 0 where
   pub rest : OnlyReads v w
   pub failures : w.failures ≡ v.failures
   pub steps : w.steps ≡ v.steps + n
+  pub found : w.found ≡ v.found
   pub grows : Grows v w
 
 -- these are the words from the place on

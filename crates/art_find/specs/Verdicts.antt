@@ -7,7 +7,7 @@ use Rattle.art_cell.specs.declared.cells.Node.{Node}
 use Rattle.art_cell.specs.Words.{packed}
 use Rattle.art_find.specs.Ways.{HasHeader, IsPastPrefix, count_in}
 use Rattle.art_find.specs.declared.verdicts.Verdict.{Verdict}
-use Rattle.art_find.specs.declared.verdicts.Verdict.TheVariants.{Found, Empty, OtherLeaf, OtherPrefix, Free, Overlaps, Torn, Absent}
+use Rattle.art_find.specs.declared.verdicts.Verdict.TheVariants.{Found, Empty, LeafMismatch, PrefixMismatch, NoChild, Overlaps, Torn, Absent}
 use Rattle.art_path.specs.Compared.{AreSame}
 use Rattle.art_step.specs.Shows.{HasChild, HasValue, Shows}
 use Rattle.art_step.specs.declared.views.Sizes.{Sizes}
@@ -20,9 +20,9 @@ use Rattle.art_tree.specs.Tree.{Begins, Row}
 abbrev pub value_of : Verdict → Option ℕ
 value_of (Found l value) = Some value
 value_of Empty = None
-value_of (OtherLeaf l at byte) = None
-value_of (OtherPrefix n header at) = None
-value_of (Free n header) = None
+value_of (LeafMismatch l at byte) = None
+value_of (PrefixMismatch n header at) = None
+value_of (NoChild n header) = None
 value_of Overlaps = None
 value_of Torn = None
 value_of Absent = None
@@ -42,13 +42,13 @@ pub record IsFound (s : Cells) (c : Cell) (l : ℕ) (k : List ℕ) (depth value 
   pub is_value : (heap_of s).value l ≡ value
 
 -- or it has another, which parts from the key behind the path
-pub record IsOtherLeaf (s : Cells) (c : Cell) (l : ℕ) (k : List ℕ) (depth at byte : ℕ) : Type 0 where
+pub record IsLeafMismatch (s : Cells) (c : Cell) (l : ℕ) (k : List ℕ) (depth at byte : ℕ) : Type 0 where
   pub child : HasChild s c (leaf l) (take depth k)
   pub behind : depth ≤ at
   pub parts : PartsAt k ((heap_of s).key l) at byte
 
 -- the node is on the key's way, and its prefix parts from the key's next bytes at this index
-pub record IsOtherPrefix (s : Cells) (n : Node) (k : List ℕ) (depth header at : ℕ) : Type 0 where
+pub record IsPrefixMismatch (s : Cells) (n : Node) (k : List ℕ) (depth header at : ℕ) : Type 0 where
   pub on : HasHeader s n k depth header
   pub same : AreSame (packed (s (cell.Node n)) 2) at k depth
   pub other : packed (s (cell.Node n)) 2 at ≢ get_or k (depth + at) 0
@@ -71,10 +71,10 @@ pub record HasOverlap (s : Cells) (k : List ℕ) : Type 0 where
 abbrev pub Says : Sizes → List ℕ → ℕ → Stamp → Verdict → View → Type 0
 Says z k depth x (Found l value) v = (l < z.leaves) × Shows z v x (λ s. IsFound s x.cell l k depth value)
 Says z k depth x Empty v = (x.cell ≡ cell.Anchor) × Shows z v x (λ s. (heap_of s).root ≡ None)
-Says z k depth x (OtherLeaf l at byte) v = (l < z.leaves) × (at < length k) × Shows z v x (λ s. IsOtherLeaf s x.cell l k depth at byte)
-Says z k depth x (OtherPrefix n header at) v =
-    (x.cell ≡ cell.Node n) × (at < count_in header) × (depth + at < length k) × Shows z v x (λ s. IsOtherPrefix s n k depth header at)
-Says z k depth x (Free n header) v = (x.cell ≡ cell.Node n) × (depth < length k) × Shows z v x (λ s. IsFree s n k depth header)
+Says z k depth x (LeafMismatch l at byte) v = (l < z.leaves) × (at < length k) × Shows z v x (λ s. IsLeafMismatch s x.cell l k depth at byte)
+Says z k depth x (PrefixMismatch n header at) v =
+    (x.cell ≡ cell.Node n) × (at < count_in header) × (depth + at < length k) × Shows z v x (λ s. IsPrefixMismatch s n k depth header at)
+Says z k depth x (NoChild n header) v = (x.cell ≡ cell.Node n) × (depth < length k) × Shows z v x (λ s. IsFree s n k depth header)
 Says z k depth x Overlaps v = Shows z v x (λ s. HasOverlap s k)
 Says z k depth x Torn v = Shows z v x (λ s. ⊥)
 Says z k depth x Absent v = Shows z v x (λ s. HasValue s k None)

@@ -35,27 +35,64 @@ pub enum Stage {
     /// The anchor is stamped.
     Anchor(Stamp),
     /// The stamp's cell names this on the key's way.
-    Child(Stamp, Link),
+    Child {
+        stamp: Stamp,
+        link: Link,
+    },
     /// A cell that was checked names this node on the key's way.
-    Below(Stamp, Node),
+    Below {
+        above: Stamp,
+        node: Node,
+    },
     /// The cell and the node are stamped.
-    Both(Stamp, Stamp, Node),
+    Both {
+        above: Stamp,
+        stamp: Stamp,
+        node: Node,
+    },
     /// The node was stamped while the cell above it named it.
-    Header(Stamp, Node),
+    Header {
+        stamp: Stamp,
+        node: Node,
+    },
     /// The word of the prefix with this number comes next; how the bytes before it stand to the key's.
-    Prefix(NodeSeen, u8, Compared),
+    Prefix {
+        seen: NodeSeen,
+        number: u8,
+        before: Compared,
+    },
     /// The word of key bytes, or of the index, with this number comes next.
-    Keys(NodeSeen, u8),
+    Keys {
+        seen: NodeSeen,
+        number: u8,
+    },
     /// The child word at this place comes next.
-    Slot(NodeSeen, usize),
+    Slot {
+        seen: NodeSeen,
+        place: usize,
+    },
     /// The stamp's cell names this leaf; its value comes next.
-    Value(Stamp, u32),
+    Value {
+        stamp: Stamp,
+        leaf: u32,
+    },
     /// Its value is this; its length comes next.
-    Length(Stamp, u32, u64),
+    Length {
+        stamp: Stamp,
+        leaf: u32,
+        value: u64,
+    },
     /// The word of the leaf's key with this number comes next; how the bytes before it stand to the key's.
-    Bytes(LeafSeen, u8, Beside),
+    Bytes {
+        seen: LeafSeen,
+        number: u8,
+        before: Beside,
+    },
     /// What was read under the stamp shows where the key stands, or would stand.
-    Decided(Stamp, Verdict),
+    Decided {
+        stamp: Stamp,
+        verdict: Verdict,
+    },
     /// That is settled: the key has this value, or none.
     Ended(Option<u64>),
 }
@@ -107,40 +144,40 @@ impl Descent {
         match self.stage {
             Stage::Start => Some(Action::Begin { cell: Cell::Anchor }),
             Stage::Anchor(stamp) => Some(Action::Read { stamp, place: 1 }),
-            Stage::Child(stamp, _) => Some(Action::Check { stamp }),
-            Stage::Below(_, node) => Some(Action::Begin {
+            Stage::Child { stamp, .. } => Some(Action::Check { stamp }),
+            Stage::Below { node, .. } => Some(Action::Begin {
                 cell: Cell::Node(node),
             }),
-            Stage::Both(above, _, _) => Some(Action::Check { stamp: above }),
-            Stage::Header(stamp, _) => Some(Action::Read { stamp, place: 1 }),
-            Stage::Prefix(seen, number, _) => Some(Action::Read {
+            Stage::Both { above, .. } => Some(Action::Check { stamp: above }),
+            Stage::Header { stamp, .. } => Some(Action::Read { stamp, place: 1 }),
+            Stage::Prefix { seen, number, .. } => Some(Action::Read {
                 stamp: seen.stamp,
                 place: 2 + usize::from(number),
             }),
-            Stage::Keys(seen, number) => Some(Action::Read {
+            Stage::Keys { seen, number } => Some(Action::Read {
                 stamp: seen.stamp,
                 place: 10 + usize::from(number),
             }),
-            Stage::Slot(seen, place) => Some(Action::Read {
+            Stage::Slot { seen, place } => Some(Action::Read {
                 stamp: seen.stamp,
                 place,
             }),
-            Stage::Value(stamp, leaf) => Some(Action::ReadLeaf {
+            Stage::Value { stamp, leaf } => Some(Action::ReadLeaf {
                 stamp,
                 leaf,
                 place: 0,
             }),
-            Stage::Length(stamp, leaf, _) => Some(Action::ReadLeaf {
+            Stage::Length { stamp, leaf, .. } => Some(Action::ReadLeaf {
                 stamp,
                 leaf,
                 place: 1,
             }),
-            Stage::Bytes(seen, number, _) => Some(Action::ReadLeaf {
+            Stage::Bytes { seen, number, .. } => Some(Action::ReadLeaf {
                 stamp: seen.stamp,
                 leaf: seen.leaf,
                 place: 2 + usize::from(number),
             }),
-            Stage::Decided(stamp, _) => Some(Action::Settle { stamp }),
+            Stage::Decided { stamp, .. } => Some(Action::Settle { stamp }),
             Stage::Ended(_) => None,
         }
     }
@@ -167,7 +204,7 @@ impl Descent {
         ensures { result ≡ answer_at self.now.stage }
     {
         match self.stage {
-            Stage::Decided(_, verdict) => verdict.value(),
+            Stage::Decided { verdict, .. } => verdict.value(),
             Stage::Ended(value) => value,
             _ => None,
         }
@@ -179,7 +216,7 @@ impl Descent {
         ensures { result ≡ decided_at self.now.stage }
     {
         match self.stage {
-            Stage::Decided(stamp, verdict) => Some((stamp, verdict)),
+            Stage::Decided { stamp, verdict } => Some((stamp, verdict)),
             _ => None,
         }
     }
@@ -195,7 +232,7 @@ impl Descent {
         }
     }
 
-    /// The step that it asked for was made, with this answer. Whether it goes on: else it begins anew.
+    /// The step that it asked for was made, with this answer. Whether it goes on: else it restarts.
     #[inline(always)]
     pub fn told(&mut self, key: &[u8], answer: Answer) -> bool
         requires few { length key.now ≤ 64 }
@@ -258,7 +295,7 @@ impl Descent {
     {
         self.stage = match stage {
             Stage::Start => Stage::Anchor(stamp),
-            Stage::Below(above, node) => Stage::Both(above, stamp, node),
+            Stage::Below { above, node } => Stage::Both { above, stamp, node },
             _ => unreachable!(),
         };
     }
@@ -290,14 +327,14 @@ impl Descent {
             Answers z (telling (what (answer_at self.old.stage))) asked (told.Checked (Ok tt)) v w → Fits z k what self.new u w }
     {
         self.stage = match stage {
-            Stage::Child(stamp, link) => below(stamp, link),
-            Stage::Both(_, stamp, node) => Stage::Header(stamp, node),
-            Stage::Decided(_, verdict) => Stage::Ended(verdict.value()),
+            Stage::Child { stamp, link } => below(stamp, link),
+            Stage::Both { stamp, node, .. } => Stage::Header { stamp, node },
+            Stage::Decided { verdict, .. } => Stage::Ended(verdict.value()),
             _ => unreachable!(),
         };
     }
 
-    /// A version word was locked, obsolete or changed: the descent begins anew.
+    /// A version word was locked, obsolete or changed: the descent restarts.
     #[inline(always)]
     pub fn failed(&mut self)
         ensures start { self.new ≡ record self.old { stage = stages.Start } }
@@ -315,7 +352,7 @@ pub(crate) fn below(stamp: Stamp, link: Link) -> Stage
     ensures { result ≡ stage_below stamp link }
 {
     match link {
-        Link::Leaf(leaf) => Stage::Value(stamp, leaf),
-        Link::Node(node) => Stage::Below(stamp, node),
+        Link::Leaf(leaf) => Stage::Value { stamp, leaf },
+        Link::Node(node) => Stage::Below { above: stamp, node },
     }
 }

@@ -17,7 +17,7 @@
 //!        N        node:   where the descent stands: its stamp, and all words that were read of it
 //! ```
 //!
-//! A `Desk` keeps the words. It is large (two cells of up to 266 words), so it stands beside the machine, and is never copied:
+//! A `ReadSet` keeps the words. It is large (two cells of up to 266 words), so it stands beside the machine, and is never copied:
 //! one step down, and N is above. The two halves change roles by a flag, and the half that was P's is cleared, in five words.
 //! N may be the anchor, and then nothing is above it.
 //!
@@ -34,20 +34,20 @@
 //! kept was noted under the cell's stamp (`IsKept`), that a path to the cell was too (`HasPath`), which is what an upgrade asks
 //! for, and that the cell above has the node as its child on the key's way, in each tree in which the notes under its stamp hold
 //! (`IsAboveOf`). All of it stays so while the pass only reads: stamps and notes are added, and none goes (`Grows`). Where one goes, at a version
-//! word that is not clear or was changed, the finding begins anew, stands nowhere and claims nothing.
+//! word that is not clear or was changed, the finding restarts, stands nowhere and claims nothing.
 //!
-//! At a verdict `stand` hands out a `Stand`: the stamp, the cell above, and the verdict; and all of that is known at once
+//! At a verdict `position` hands out a `Position`: the stamp, the cell above, and the verdict; and all of that is known at once
 //! (`IsStanding`). It stays known whatever else the pass does with its numbers (`standing_grows`).
 //!
 //! # The words that are missing
 //!
 //! A descent reads the words of a node that it needs, and no more. A `Rereading` reads the others of one stamped cell, in
 //! ascending place, so that a plan sees all of them. What was found stays found meanwhile (`standing_stays`). `read_on_node`
-//! and `read_on_above` of a desk make its reads in a loop of their own, where only turns can stop it.
+//! and `read_on_above` of a read set make its reads in a loop of their own, where only turns can stop it.
 ghost use Rattle.std.specs.Prelude.{◌≡◌, ◌+◌, ◌≤◌, ◌<◌, ◌⊎◌, ℕ, List, Option, length, None};
 ghost use Rattle.art_find.specs.Findings.{AsksPlace, IsHeard};
 
-use crate::{Descent, Desk, Stage, Verdict};
+use crate::{Descent, ReadSet, Stage, Verdict};
 use art_cell::Cell;
 use art_machine::{Action, Answer};
 use art_step::{Changed, Locked, Stamp, Steps};
@@ -62,7 +62,7 @@ pub struct Above {
 
 /// Where a key stands, or would stand.
 #[derive(Clone, Copy)]
-pub struct Stand {
+pub struct Position {
     /// The cell under whose stamp that was read.
     pub stamp: Stamp,
     /// How many bytes of the key were read as a path on the way there.
@@ -88,8 +88,8 @@ impl Finding {
     ghost use Rattle.art_find.specs.Descents.{answer_at, asks, ended_at, most_steps};
     ghost use Rattle.art_machine.specs.declared.actions.Action.{Action as ActionOf};
     ghost use Rattle.art_machine.specs.declared.actions.Action.TheVariants.{Begin as begin_asked, Check as check_asked, Read as read_asked};
-    ghost use Rattle.art_find.specs.Findings.{AsksLeaf, Descends, Enters, FindingFits, IsStanding, IsThere, Keeps, LookedOn, stand_at};
-    ghost use Rattle.art_find.specs.declared.desks.Desk.{Desk as DeskOf};
+    ghost use Rattle.art_find.specs.Findings.{AsksLeaf, Descends, Enters, FindingFits, IsStanding, IsThere, Keeps, LookedOn, position_at};
+    ghost use Rattle.art_find.specs.declared.read_sets.ReadSet.{ReadSet as ReadSetOf};
     ghost use Rattle.art_step.specs.Shows.{HasValue};
     ghost use Rattle.art_step.specs.Steps.Begin.{Outcome as Begun};
     ghost use Rattle.art_step.specs.Steps.Check.{Outcome as WasChecked};
@@ -104,8 +104,8 @@ impl Finding {
         ensures steps { most_steps result.descent.depth result.descent.stage ≡ 0 }
         ensures going { ended_at result.descent.stage ≡ None }
         ensures exact { IsExact result.descent.stage }
-        ensures fits { (z : Sizes) (k : List ℕ) (what : Option ℕ → Deed) (desk : DeskOf) (u v : View) → IsReading u v →
-            FindingFits z k what result desk u v }
+        ensures fits { (z : Sizes) (k : List ℕ) (what : Option ℕ → Deed) (read_set : ReadSetOf) (u v : View) → IsReading u v →
+            FindingFits z k what result read_set u v }
     {
         Finding {
             descent: Descent::new(),
@@ -117,8 +117,8 @@ impl Finding {
     #[inline(always)]
     pub fn next(&self) -> Option<Action>
         ensures asks { result ≡ asks self.now.descent.stage }
-        ensures allowed { (z : Sizes) (k : List ℕ) (what : Option ℕ → Deed) (desk : DeskOf) (u v : View) →
-            FindingFits z k what self.now desk u v →
+        ensures allowed { (z : Sizes) (k : List ℕ) (what : Option ℕ → Deed) (read_set : ReadSetOf) (u v : View) →
+            FindingFits z k what self.now read_set u v →
             IfSome result (MayLook z (λ s. HasValue s k (answer_at self.now.descent.stage)) v) }
     {
         self.descent.next()
@@ -126,13 +126,13 @@ impl Finding {
 
     /// Where the key stands or would stand, once that was read: a check of the stamp comes next.
     #[inline(always)]
-    pub fn stand(&self) -> Option<Stand>
-        ensures at { result ≡ stand_at self.now }
-        ensures stands { IfSome result (λ t. (z : Sizes) (k : List ℕ) (what : Option ℕ → Deed) (desk : DeskOf) (u v : View) →
-            FindingFits z k what self.now desk u v → IsReading u v × IsStanding z k t desk v) }
+    pub fn position(&self) -> Option<Position>
+        ensures at { result ≡ position_at self.now }
+        ensures stands { IfSome result (λ t. (z : Sizes) (k : List ℕ) (what : Option ℕ → Deed) (read_set : ReadSetOf) (u v : View) →
+            FindingFits z k what self.now read_set u v → IsReading u v × IsStanding z k t read_set v) }
     {
         let (stamp, verdict) = self.descent.decided()?;
-        Some(Stand {
+        Some(Position {
             stamp,
             depth: self.descent.depth(),
             above: self.above,
@@ -140,12 +140,12 @@ impl Finding {
         })
     }
 
-    /// The step that it asked for was made, with this answer. Whether it goes on: else it begins anew.
+    /// The step that it asked for was made, with this answer. Whether it goes on: else it restarts.
     #[inline(always)]
-    pub fn told(&mut self, desk: &mut Desk, key: &[u8], answer: Answer) -> bool
+    pub fn told(&mut self, read_set: &mut ReadSet, key: &[u8], answer: Answer) -> bool
         requires few { length key.now ≤ 64 }
         requires fits { (z : Sizes) × (what : Option ℕ → Deed) × (u : View) × (v : View) × (w : View) × (asked : ActionOf) ×
-            FindingFits z key.now what self.old desk.old u v × (asks self.old.descent.stage ≡ Some asked) ×
+            FindingFits z key.now what self.old read_set.old u v × (asks self.old.descent.stage ≡ Some asked) ×
             Answers z (telling (what (answer_at self.old.descent.stage))) asked answer v w }
         ensures on { result ≡ goes_on answer }
         ensures steps { result ≡ true → most_steps self.old.descent.depth self.old.descent.stage <
@@ -153,41 +153,41 @@ impl Finding {
         ensures anew { result ≡ false → most_steps self.new.descent.depth self.new.descent.stage ≡ 0 }
         ensures stays { Stays answer self.old.descent self.new.descent }
         ensures keeps { Keeps answer (asks self.old.descent.stage) (asks self.new.descent.stage) self.new.descent.depth
-            self.old.above desk.old self.new.above desk.new }
+            self.old.above read_set.old self.new.above read_set.new }
         ensures exact { IsExact self.new.descent.stage }
         ensures fits { (z : Sizes) (what : Option ℕ → Deed) (u v w : View) (asked : ActionOf) →
-            FindingFits z key.now what self.old desk.old u v → asks self.old.descent.stage ≡ Some asked →
-            Answers z (telling (what (answer_at self.old.descent.stage))) asked answer v w → FindingFits z key.now what self.new desk.new u w }
+            FindingFits z key.now what self.old read_set.old u v → asks self.old.descent.stage ≡ Some asked →
+            Answers z (telling (what (answer_at self.old.descent.stage))) asked answer v w → FindingFits z key.now what self.new read_set.new u w }
     {
         let asked = self.descent.next();
         let on = self.descent.told(key, answer);
-        self.keep(desk, asked, answer);
+        self.keep(read_set, asked, answer);
         on
     }
 
     /// Makes steps and hears them until the place is known, as long as more than one turn is left. Whether it goes on: else the last one
-    /// failed, and it begins anew.
+    /// failed, and it restarts.
     pub fn descend<S: Steps>(
         &mut self,
         steps: &mut S,
-        desk: &mut Desk,
+        read_set: &mut ReadSet,
         key: &[u8],
         left: &mut u32,
     ) -> bool
         requires few { length key.now ≤ 64 }
         requires turn { 0 < left.old }
         requires fits { (what : Option ℕ → Deed) × (u : View) ×
-            FindingFits (S.sizes steps.old) key.now what self.old desk.old u (S.view steps.old) }
+            FindingFits (S.sizes steps.old) key.now what self.old read_set.old u (S.view steps.old) }
         ensures only { S.only steps.old steps.new }
         ensures turn { 0 < left.new }
         ensures less { left.new ≤ left.old }
         ensures made { (S.view steps.new).steps + left.new ≡ (S.view steps.old).steps + left.old }
         ensures there { result ≡ true → IsThere self.new ⊎ (left.new ≡ 1) }
-        ensures descends { Descends (S.sizes steps.old) key.now result self.old desk.old (S.view steps.old)
-            self.new desk.new (S.view steps.new) }
+        ensures descends { Descends (S.sizes steps.old) key.now result self.old read_set.old (S.view steps.old)
+            self.new read_set.new (S.view steps.new) }
     {
         while *left > 1 {
-            let Some(on) = self.look_on(steps, desk, key) else {
+            let Some(on) = self.look_on(steps, read_set, key) else {
                 return true;
             };
             *left -= 1;
@@ -198,37 +198,52 @@ impl Finding {
         true
     }
 
-    /// Makes the next step, unless the place is known or it has ended, and hears it. Whether it goes on: else it begins anew.
-    pub fn look_on<S: Steps>(&mut self, steps: &mut S, desk: &mut Desk, key: &[u8]) -> Option<bool>
+    /// Makes the next step, unless the place is known or it has ended, and hears it. Whether it goes on: else it restarts.
+    pub fn look_on<S: Steps>(
+        &mut self,
+        steps: &mut S,
+        read_set: &mut ReadSet,
+        key: &[u8],
+    ) -> Option<bool>
         requires few { length key.now ≤ 64 }
         requires fits { (what : Option ℕ → Deed) × (u : View) ×
-            FindingFits (S.sizes steps.old) key.now what self.old desk.old u (S.view steps.old) }
+            FindingFits (S.sizes steps.old) key.now what self.old read_set.old u (S.view steps.old) }
         ensures only { S.only steps.old steps.new }
-        ensures none { IfNone result (IsThere self.old × (self.new ≡ self.old) × (desk.new ≡ desk.old) × (S.view steps.new ≡ S.view steps.old)) }
-        ensures looked { IfSome result (λ on. LookedOn (S.sizes steps.old) key.now on self.old desk.old (S.view steps.old)
-            self.new desk.new (S.view steps.new)) }
+        ensures none { IfNone result (IsThere self.old × (self.new ≡ self.old) × (read_set.new ≡ read_set.old) × (S.view steps.new ≡ S.view steps.old)) }
+        ensures looked { IfSome result (λ on. LookedOn (S.sizes steps.old) key.now on self.old read_set.old (S.view steps.old)
+            self.new read_set.new (S.view steps.new)) }
     {
         // what a step needs is taken out of the stage before it: memory is read anew behind it, since other threads write there
         match *self.descent.stage() {
             Stage::Start => {
                 let begun = steps.begin(Cell::Anchor);
-                Some(self.hear_begun(desk, Stage::Start, Cell::Anchor, begun))
+                Some(self.hear_begun(read_set, Stage::Start, Cell::Anchor, begun))
             }
-            Stage::Below(above, node) => {
+            Stage::Below { above, node } => {
                 let begun = steps.begin(Cell::Node(node));
-                Some(self.hear_begun(desk, Stage::Below(above, node), Cell::Node(node), begun))
+                Some(self.hear_begun(
+                    read_set,
+                    Stage::Below { above, node },
+                    Cell::Node(node),
+                    begun,
+                ))
             }
-            Stage::Child(stamp, link) => {
+            Stage::Child { stamp, link } => {
                 let checked = steps.check(stamp, None);
-                Some(self.hear_checked(desk, Stage::Child(stamp, link), stamp, checked))
+                Some(self.hear_checked(read_set, Stage::Child { stamp, link }, stamp, checked))
             }
-            Stage::Both(above, stamp, node) => {
+            Stage::Both { above, stamp, node } => {
                 let checked = steps.check(above, None);
-                Some(self.hear_checked(desk, Stage::Both(above, stamp, node), above, checked))
+                Some(self.hear_checked(
+                    read_set,
+                    Stage::Both { above, stamp, node },
+                    above,
+                    checked,
+                ))
             }
-            Stage::Decided(_, _) | Stage::Ended(_) => None,
+            Stage::Decided { .. } | Stage::Ended(_) => None,
             _ => {
-                self.read_on(steps, desk, key);
+                self.read_on(steps, read_set, key);
                 Some(true)
             }
         }
@@ -236,45 +251,60 @@ impl Finding {
 
     /// Reads the word that comes next of a cell or of a leaf, and hears it.
     #[inline(always)]
-    fn read_on<S: Steps>(&mut self, steps: &mut S, desk: &mut Desk, key: &[u8])
+    fn read_on<S: Steps>(&mut self, steps: &mut S, read_set: &mut ReadSet, key: &[u8])
         requires few { length key.now ≤ 64 }
         requires word { WantsWord (asks self.old.descent.stage) }
         requires fits { (what : Option ℕ → Deed) × (u : View) ×
-            FindingFits (S.sizes steps.old) key.now what self.old desk.old u (S.view steps.old) }
+            FindingFits (S.sizes steps.old) key.now what self.old read_set.old u (S.view steps.old) }
         ensures only { S.only steps.old steps.new }
-        ensures looked { LookedOn (S.sizes steps.old) key.now true self.old desk.old (S.view steps.old)
-            self.new desk.new (S.view steps.new) }
+        ensures looked { LookedOn (S.sizes steps.old) key.now true self.old read_set.old (S.view steps.old)
+            self.new read_set.new (S.view steps.new) }
     {
         match *self.descent.stage() {
             Stage::Anchor(stamp) => {
                 let word = steps.read(stamp, 1);
-                self.hear_word(desk, key, Stage::Anchor(stamp), stamp, 1, word);
+                self.hear_word(read_set, key, Stage::Anchor(stamp), stamp, 1, word);
             }
-            Stage::Header(stamp, node) => {
+            Stage::Header { stamp, node } => {
                 let word = steps.read(stamp, 1);
-                self.hear_word(desk, key, Stage::Header(stamp, node), stamp, 1, word);
+                self.hear_word(read_set, key, Stage::Header { stamp, node }, stamp, 1, word);
             }
-            Stage::Prefix(seen, number, before) => {
+            Stage::Prefix {
+                seen,
+                number,
+                before,
+            } => {
                 let place = 2 + usize::from(number);
                 let word = steps.read(seen.stamp, place);
-                let stage = Stage::Prefix(seen, number, before);
-                self.hear_word(desk, key, stage, seen.stamp, place, word);
+                let stage = Stage::Prefix {
+                    seen,
+                    number,
+                    before,
+                };
+                self.hear_word(read_set, key, stage, seen.stamp, place, word);
             }
-            Stage::Keys(seen, number) => {
+            Stage::Keys { seen, number } => {
                 let place = 10 + usize::from(number);
                 let word = steps.read(seen.stamp, place);
                 self.hear_word(
-                    desk,
+                    read_set,
                     key,
-                    Stage::Keys(seen, number),
+                    Stage::Keys { seen, number },
                     seen.stamp,
                     place,
                     word,
                 );
             }
-            Stage::Slot(seen, place) => {
+            Stage::Slot { seen, place } => {
                 let word = steps.read(seen.stamp, place);
-                self.hear_word(desk, key, Stage::Slot(seen, place), seen.stamp, place, word);
+                self.hear_word(
+                    read_set,
+                    key,
+                    Stage::Slot { seen, place },
+                    seen.stamp,
+                    place,
+                    word,
+                );
             }
             _ => self.read_leaf_on(steps, key),
         }
@@ -285,26 +315,38 @@ impl Finding {
     fn read_leaf_on<S: Steps>(&mut self, steps: &mut S, key: &[u8])
         requires few { length key.now ≤ 64 }
         requires leaf { AsksLeaf (asks self.old.descent.stage) }
-        requires fits { (what : Option ℕ → Deed) × (desk : DeskOf) × (u : View) ×
-            FindingFits (S.sizes steps.old) key.now what self.old desk u (S.view steps.old) }
+        requires fits { (what : Option ℕ → Deed) × (read_set : ReadSetOf) × (u : View) ×
+            FindingFits (S.sizes steps.old) key.now what self.old read_set u (S.view steps.old) }
         ensures only { S.only steps.old steps.new }
-        ensures looked { (desk : DeskOf) → LookedOn (S.sizes steps.old) key.now true self.old desk (S.view steps.old)
-            self.new desk (S.view steps.new) }
+        ensures looked { (read_set : ReadSetOf) → LookedOn (S.sizes steps.old) key.now true self.old read_set (S.view steps.old)
+            self.new read_set (S.view steps.new) }
     {
         match *self.descent.stage() {
-            Stage::Value(stamp, leaf) => {
+            Stage::Value { stamp, leaf } => {
                 let word = steps.read_leaf(stamp, leaf, 0);
-                self.descent.read_at(Stage::Value(stamp, leaf), key, word);
+                self.descent
+                    .read_at(Stage::Value { stamp, leaf }, key, word);
             }
-            Stage::Length(stamp, leaf, value) => {
+            Stage::Length { stamp, leaf, value } => {
                 let word = steps.read_leaf(stamp, leaf, 1);
                 self.descent
-                    .read_at(Stage::Length(stamp, leaf, value), key, word);
+                    .read_at(Stage::Length { stamp, leaf, value }, key, word);
             }
-            Stage::Bytes(seen, number, before) => {
+            Stage::Bytes {
+                seen,
+                number,
+                before,
+            } => {
                 let word = steps.read_leaf(seen.stamp, seen.leaf, 2 + usize::from(number));
-                self.descent
-                    .read_at(Stage::Bytes(seen, number, before), key, word);
+                self.descent.read_at(
+                    Stage::Bytes {
+                        seen,
+                        number,
+                        before,
+                    },
+                    key,
+                    word,
+                );
             }
             _ => unreachable!(),
         }
@@ -314,7 +356,7 @@ impl Finding {
     #[inline(always)]
     fn hear_begun(
         &mut self,
-        desk: &mut Desk,
+        read_set: &mut ReadSet,
         stage: Stage,
         cell: Cell,
         begun: Result<Stamp, Locked>,
@@ -322,12 +364,12 @@ impl Finding {
         requires at { self.old.descent.stage ≡ stage }
         requires asked { asks stage ≡ Some (begin_asked cell) }
         ensures looked { (z : Sizes) (k : List ℕ) (v w : View) → Begun z v w cell begun →
-            LookedOn z k result self.old desk.old v self.new desk.new w }
+            LookedOn z k result self.old read_set.old v self.new read_set.new w }
     {
         match begun {
             Ok(stamp) => {
                 self.descent.began_at(stage, stamp);
-                self.enter(desk, Some(Action::Begin { cell }));
+                self.enter(read_set, Some(Action::Begin { cell }));
                 true
             }
             Err(_) => {
@@ -341,7 +383,7 @@ impl Finding {
     #[inline(always)]
     fn hear_word(
         &mut self,
-        desk: &mut Desk,
+        read_set: &mut ReadSet,
         key: &[u8],
         stage: Stage,
         stamp: Stamp,
@@ -353,20 +395,20 @@ impl Finding {
         requires asked { asks stage ≡ Some (read_asked stamp place) }
         requires inside { place < 266 }
         requires fits { (z : Sizes) × (what : Option ℕ → Deed) × (u : View) × (v : View) ×
-            FindingFits z key.now what self.old desk.old u v }
+            FindingFits z key.now what self.old read_set.old u v }
         ensures looked { (z : Sizes) (v w : View) → WasRead z v w stamp place word →
-            LookedOn z key.now true self.old desk.old v self.new desk.new w }
+            LookedOn z key.now true self.old read_set.old v self.new read_set.new w }
     {
         let _ = stamp.version;
         self.descent.read_at(stage, key, word);
-        desk.note(place, word);
+        read_set.note(place, word);
     }
 
     /// The cell that it asked for, where its descent stood at this stage, was checked. Whether it goes on.
     #[inline(always)]
     fn hear_checked(
         &mut self,
-        desk: &mut Desk,
+        read_set: &mut ReadSet,
         stage: Stage,
         stamp: Stamp,
         checked: Result<(), Changed>,
@@ -374,12 +416,12 @@ impl Finding {
         requires at { self.old.descent.stage ≡ stage }
         requires asked { asks stage ≡ Some (check_asked stamp) }
         ensures looked { (z : Sizes) (k : List ℕ) (v w : View) → WasChecked z v w stamp None checked →
-            LookedOn z k result self.old desk.old v self.new desk.new w }
+            LookedOn z k result self.old read_set.old v self.new read_set.new w }
     {
         match checked {
             Ok(()) => {
                 self.descent.checked_at(stage);
-                self.enter(desk, Some(Action::Check { stamp }));
+                self.enter(read_set, Some(Action::Check { stamp }));
                 true
             }
             Err(_) => {
@@ -391,36 +433,36 @@ impl Finding {
 
     /// Keeps what was read by the step that was asked for.
     #[inline(always)]
-    fn keep(&mut self, desk: &mut Desk, asked: Option<Action>, answer: Answer)
+    fn keep(&mut self, read_set: &mut ReadSet, asked: Option<Action>, answer: Answer)
         requires { AsksPlace asked }
         ensures descent { self.new.descent ≡ self.old.descent }
-        ensures keeps { Keeps answer asked (asks self.old.descent.stage) self.old.descent.depth self.old.above desk.old
-            self.new.above desk.new }
+        ensures keeps { Keeps answer asked (asks self.old.descent.stage) self.old.descent.depth self.old.above read_set.old
+            self.new.above read_set.new }
     {
         match answer {
-            Answer::Word { found } => hear(desk, asked, found),
-            Answer::Begun { .. } | Answer::Checked { .. } => self.enter(desk, asked),
+            Answer::Word { found } => hear(read_set, asked, found),
+            Answer::Begun { .. } | Answer::Checked { .. } => self.enter(read_set, asked),
             Answer::Upgraded { .. } | Answer::Done => {}
         }
     }
 
     /// A version word was asked for. Where a read of a cell comes next, the finding stands on that cell from now on.
     #[inline(always)]
-    fn enter(&mut self, desk: &mut Desk, asked: Option<Action>)
+    fn enter(&mut self, read_set: &mut ReadSet, asked: Option<Action>)
         ensures descent { self.new.descent ≡ self.old.descent }
-        ensures enters { Enters asked (asks self.old.descent.stage) self.old.descent.depth self.old.above desk.old
-            self.new.above desk.new }
+        ensures enters { Enters asked (asks self.old.descent.stage) self.old.descent.depth self.old.above read_set.old
+            self.new.above read_set.new }
     {
         match self.descent.next() {
             Some(Action::Read { .. }) => match asked {
                 Some(Action::Check { stamp }) => {
                     let depth = self.descent.depth();
                     self.above = Some(Above { stamp, depth });
-                    desk.go_down();
+                    read_set.go_down();
                 }
                 _ => {
                     self.above = None;
-                    desk.clear();
+                    read_set.clear();
                 }
             },
             _ => {}
@@ -430,12 +472,12 @@ impl Finding {
 
 /// Keeps a word that was read.
 #[inline(always)]
-fn hear(desk: &mut Desk, asked: Option<Action>, word: u64)
+fn hear(read_set: &mut ReadSet, asked: Option<Action>, word: u64)
     requires { AsksPlace asked }
-    ensures { IsHeard asked word desk.old desk.new }
+    ensures { IsHeard asked word read_set.old read_set.new }
 {
     match asked {
-        Some(Action::Read { place, .. }) => desk.note(place, word),
+        Some(Action::Read { place, .. }) => read_set.note(place, word),
         _ => {}
     }
 }

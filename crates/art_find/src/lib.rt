@@ -33,7 +33,7 @@
 //! What was read may be of different moments, and then be of no node at all: a prefix that is too long, an entry of an index
 //! that is no place. The descent reads on within the cell, or stops and has the cell checked: that check fails.
 //!
-//! # Where it begins anew
+//! # Where it restarts
 //!
 //! A version word that is locked, obsolete or changed sends the descent back to the anchor (`failed`). At a changed word the
 //! other stamps stay in the view, and do no harm; at one that is not clear all of them go.
@@ -66,7 +66,7 @@
 //! # For a change
 //!
 //! An insert or a removal that goes on from there needs more than a get: the cell above stays stamped, and the words that were
-//! read are kept. `Finding` is a descent that keeps them on a `Desk` (`src/findings.rt` teaches it), and a `Rereading` reads the
+//! read are kept. `Finding` is a descent that keeps them in a `ReadSet` (`src/findings.rt` teaches it), and a `Rereading` reads the
 //! words of a cell that the descent had no need of.
 //!
 //! # How many steps
@@ -77,9 +77,9 @@
 
 mod compares;
 mod descents;
-mod desks;
 mod driver;
 mod findings;
+mod read_sets;
 mod reads;
 mod rereadings;
 mod straight;
@@ -87,9 +87,9 @@ mod verdicts;
 
 pub use compares::Beside;
 pub use descents::{Descent, LeafSeen, NodeSeen, Stage};
-pub use desks::Desk;
 pub use driver::look;
-pub use findings::{Above, Finding, Stand};
+pub use findings::{Above, Finding, Position};
+pub use read_sets::ReadSet;
 pub use rereadings::Rereading;
 pub use straight::{Tally, go_down};
 pub use verdicts::Verdict;

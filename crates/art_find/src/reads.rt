@@ -59,7 +59,7 @@ impl Descent {
     {
         match stage {
             Stage::Anchor(stamp) => self.see_root(key, stamp, word),
-            Stage::Header(stamp, node) => self.see_header(
+            Stage::Header { stamp, node } => self.see_header(
                 key,
                 NodeSeen {
                     stamp,
@@ -67,12 +67,24 @@ impl Descent {
                     header: word,
                 },
             ),
-            Stage::Prefix(seen, number, before) => self.see_prefix(key, seen, number, before, word),
-            Stage::Keys(seen, number) => self.see_keys(key, seen, number, word),
-            Stage::Slot(seen, place) => self.see_slot(key, seen, place, word),
-            Stage::Value(stamp, leaf) => self.stage = Stage::Length(stamp, leaf, word),
-            Stage::Length(stamp, leaf, value) => self.see_length(key, stamp, leaf, value, word),
-            Stage::Bytes(seen, number, before) => self.see_bytes(key, seen, number, before, word),
+            Stage::Prefix {
+                seen,
+                number,
+                before,
+            } => self.see_prefix(key, seen, number, before, word),
+            Stage::Keys { seen, number } => self.see_keys(key, seen, number, word),
+            Stage::Slot { seen, place } => self.see_slot(key, seen, place, word),
+            Stage::Value { stamp, leaf } => self.stage = Stage::Length {
+                stamp,
+                leaf,
+                value: word,
+            },
+            Stage::Length { stamp, leaf, value } => self.see_length(key, stamp, leaf, value, word),
+            Stage::Bytes {
+                seen,
+                number,
+                before,
+            } => self.see_bytes(key, seen, number, before, word),
             _ => unreachable!(),
         }
     }
@@ -91,8 +103,11 @@ impl Descent {
         let _ = key;
         self.depth = 0;
         self.stage = match Link::named_by(word) {
-            Some(link) => Stage::Child(stamp, link),
-            None => Stage::Decided(stamp, Verdict::Empty),
+            Some(link) => Stage::Child { stamp, link },
+            None => Stage::Decided {
+                stamp,
+                verdict: Verdict::Empty,
+            },
         };
     }
 
@@ -110,9 +125,16 @@ impl Descent {
     {
         let count = read_header(seen.header).prefix_length;
         if self.depth + count > 63 {
-            self.stage = Stage::Decided(seen.stamp, Verdict::Torn);
+            self.stage = Stage::Decided {
+                stamp: seen.stamp,
+                verdict: Verdict::Torn,
+            };
         } else if count > 0 {
-            self.stage = Stage::Prefix(seen, 0, Compared::Same);
+            self.stage = Stage::Prefix {
+                seen,
+                number: 0,
+                before: Compared::Same,
+            };
         } else {
             self.pass(key, seen)
         }
@@ -137,18 +159,36 @@ impl Descent {
         let count = read_header(seen.header).prefix_length;
         let compared = compare_word(key, self.depth, count, number, word, before);
         if 8 * usize::from(number) + 8 < count {
-            self.stage = Stage::Prefix(seen, number + 1, compared);
+            self.stage = Stage::Prefix {
+                seen,
+                number: number + 1,
+                before: compared,
+            };
             return;
         }
         match compared {
             Compared::Same => self.pass(key, seen),
             Compared::Below(at) => {
-                let verdict = Verdict::OtherPrefix(seen.node, seen.header, at);
-                self.stage = Stage::Decided(seen.stamp, verdict);
+                let verdict = Verdict::PrefixMismatch {
+                    node: seen.node,
+                    header: seen.header,
+                    at,
+                };
+                self.stage = Stage::Decided {
+                    stamp: seen.stamp,
+                    verdict,
+                };
             }
             Compared::Above(at) => {
-                let verdict = Verdict::OtherPrefix(seen.node, seen.header, at);
-                self.stage = Stage::Decided(seen.stamp, verdict.within(key, self.depth + at));
+                let verdict = Verdict::PrefixMismatch {
+                    node: seen.node,
+                    header: seen.header,
+                    at,
+                };
+                self.stage = Stage::Decided {
+                    stamp: seen.stamp,
+                    verdict: verdict.within(key, self.depth + at),
+                };
             }
         }
     }
@@ -167,7 +207,10 @@ impl Descent {
     {
         let depth = self.depth + read_header(seen.header).prefix_length;
         if depth >= key.len() {
-            self.stage = Stage::Decided(seen.stamp, Verdict::Overlaps);
+            self.stage = Stage::Decided {
+                stamp: seen.stamp,
+                verdict: Verdict::Overlaps,
+            };
             return;
         }
         self.depth = depth;
@@ -212,10 +255,19 @@ impl Descent {
         match Link::named_by(word) {
             Some(link) => {
                 self.depth += 1;
-                self.stage = Stage::Child(seen.stamp, link);
+                self.stage = Stage::Child {
+                    stamp: seen.stamp,
+                    link,
+                };
             }
             None => {
-                self.stage = Stage::Decided(seen.stamp, Verdict::Free(seen.node, seen.header));
+                self.stage = Stage::Decided {
+                    stamp: seen.stamp,
+                    verdict: Verdict::NoChild {
+                        node: seen.node,
+                        header: seen.header,
+                    },
+                };
             }
         }
     }
@@ -233,26 +285,35 @@ impl Descent {
             Shows z w stamp (λ s. s (cells.Leaf leaf) 1 ≡ bytes) → Fits z key.now what self.new u w }
     {
         if bytes > 64 {
-            self.stage = Stage::Decided(stamp, Verdict::Torn);
+            self.stage = Stage::Decided {
+                stamp,
+                verdict: Verdict::Torn,
+            };
         } else if bytes > 0 {
             let count = bytes as usize;
-            self.stage = Stage::Bytes(
-                LeafSeen {
+            self.stage = Stage::Bytes {
+                seen: LeafSeen {
                     stamp,
                     leaf,
                     value,
                     count,
                 },
-                0,
-                Beside {
+                number: 0,
+                before: Beside {
                     compared: Compared::Same,
                     byte: 0,
                 },
-            );
+            };
         } else if key.is_empty() {
-            self.stage = Stage::Decided(stamp, Verdict::Found(leaf, value));
+            self.stage = Stage::Decided {
+                stamp,
+                verdict: Verdict::Found { leaf, value },
+            };
         } else {
-            self.stage = Stage::Decided(stamp, Verdict::Overlaps);
+            self.stage = Stage::Decided {
+                stamp,
+                verdict: Verdict::Overlaps,
+            };
         }
     }
 
@@ -273,24 +334,51 @@ impl Descent {
     {
         let beside = beside_word(key, seen.count, number, word, before);
         if 8 * usize::from(number) + 8 < seen.count {
-            self.stage = Stage::Bytes(seen, number + 1, beside);
+            self.stage = Stage::Bytes {
+                seen,
+                number: number + 1,
+                before: beside,
+            };
             return;
         }
         let byte = beside.byte;
         match beside.compared {
             Compared::Same => {
                 if seen.count == key.len() {
-                    self.stage = Stage::Decided(seen.stamp, Verdict::Found(seen.leaf, seen.value));
+                    self.stage = Stage::Decided {
+                        stamp: seen.stamp,
+                        verdict: Verdict::Found {
+                            leaf: seen.leaf,
+                            value: seen.value,
+                        },
+                    };
                 } else {
-                    self.stage = Stage::Decided(seen.stamp, Verdict::Overlaps);
+                    self.stage = Stage::Decided {
+                        stamp: seen.stamp,
+                        verdict: Verdict::Overlaps,
+                    };
                 }
             }
             Compared::Below(at) => {
-                self.stage = Stage::Decided(seen.stamp, Verdict::OtherLeaf(seen.leaf, at, byte));
+                self.stage = Stage::Decided {
+                    stamp: seen.stamp,
+                    verdict: Verdict::LeafMismatch {
+                        leaf: seen.leaf,
+                        at,
+                        byte,
+                    },
+                };
             }
             Compared::Above(at) => {
-                let verdict = Verdict::OtherLeaf(seen.leaf, at, byte);
-                self.stage = Stage::Decided(seen.stamp, verdict.within(key, at));
+                let verdict = Verdict::LeafMismatch {
+                    leaf: seen.leaf,
+                    at,
+                    byte,
+                };
+                self.stage = Stage::Decided {
+                    stamp: seen.stamp,
+                    verdict: verdict.within(key, at),
+                };
             }
         }
     }
@@ -302,8 +390,14 @@ fn staged(sought: Sought, seen: NodeSeen) -> Stage
     ensures { result ≡ staged sought seen }
 {
     match sought {
-        Sought::Keys(number) => Stage::Keys(seen, number),
-        Sought::Child(place) => Stage::Slot(seen, place),
-        Sought::Nothing => Stage::Decided(seen.stamp, Verdict::Free(seen.node, seen.header)),
+        Sought::Keys(number) => Stage::Keys { seen, number },
+        Sought::Child(place) => Stage::Slot { seen, place },
+        Sought::Nothing => Stage::Decided {
+            stamp: seen.stamp,
+            verdict: Verdict::NoChild {
+                node: seen.node,
+                header: seen.header,
+            },
+        },
     }
 }

@@ -19,7 +19,7 @@ use art_node::{Sought, first_word, next_word, read_header};
 use art_path::Compared;
 use art_step::{Stamp, Steps};
 
-/// How many steps of a get are left, and how often it began anew.
+/// How many steps of a get are left, and how often it restarted.
 #[derive(Clone, Copy)]
 pub struct Tally {
     pub left: u32,
@@ -95,7 +95,7 @@ fn first<S: Steps>(steps: &mut S, tally: &mut Tally, descent: &mut Descent) -> O
 {
     match descent.stage {
         Stage::Start => root(steps, tally, descent),
-        Stage::Below(above, node) => Some(Below {
+        Stage::Below { above, node } => Some(Below {
             depth: descent.depth,
             above,
             link: Link::Node(node),
@@ -185,7 +185,7 @@ fn stamp_anchor<S: Steps>(steps: &mut S, tally: &mut Tally, descent: &mut Descen
     tally.left -= 1;
     match steps.begin(Cell::Anchor) {
         Ok(stamp) => Some(stamp),
-        Err(_) => begin_anew(tally, descent),
+        Err(_) => restart(tally, descent),
     }
 }
 
@@ -208,7 +208,10 @@ fn root_child<S: Steps>(
     let Some(link) = Link::named_by(steps.read(stamp, 1)) else {
         *descent = Descent {
             depth: 0,
-            stage: Stage::Decided(stamp, Verdict::Empty),
+            stage: Stage::Decided {
+                stamp,
+                verdict: Verdict::Empty,
+            },
         };
         return None;
     };
@@ -241,7 +244,7 @@ fn pass<S: Steps>(
             above: child.stamp,
             link: child.link,
         }),
-        Err(_) => begin_anew(tally, descent),
+        Err(_) => restart(tally, descent),
     }
 }
 
@@ -266,7 +269,7 @@ fn stamp_node<S: Steps>(
     tally.left -= 1;
     match steps.begin(Cell::Node(node)) {
         Ok(stamp) => Some(stamp),
-        Err(_) => begin_anew(tally, descent),
+        Err(_) => restart(tally, descent),
     }
 }
 
@@ -295,7 +298,7 @@ fn check_above<S: Steps>(
     tally.left -= 1;
     match steps.check(below.above, None) {
         Ok(()) => Some(()),
-        Err(_) => begin_anew(tally, descent),
+        Err(_) => restart(tally, descent),
     }
 }
 
@@ -324,7 +327,7 @@ fn search<S: Steps>(
     if read_header(header).prefix_length > 0 || depth >= key.len() {
         *descent = Descent {
             depth,
-            stage: Stage::Header(stamp, node),
+            stage: Stage::Header { stamp, node },
         };
         descent.read(key, header);
         return pass_prefix(steps, tally, descent, key);
@@ -358,7 +361,7 @@ fn pass_prefix<S: Steps>(
         (S.sizes steps.new) (S.view steps.new) (come_to at_search result descent.new) tally.new }
 {
     loop {
-        let Stage::Prefix(seen, number, _) = descent.stage else {
+        let Stage::Prefix { seen, number, .. } = descent.stage else {
             return search_at(descent);
         };
         if tally.left < 5 {
@@ -376,12 +379,12 @@ fn search_at(descent: &Descent) -> Option<NodeSearch>
     ensures { IfSome result (λ r. at_search r ≡ descent.now) }
 {
     match descent.stage {
-        Stage::Keys(seen, number) => Some(NodeSearch {
+        Stage::Keys { seen, number } => Some(NodeSearch {
             depth: descent.depth,
             seen,
             sought: Sought::Keys(number),
         }),
-        Stage::Slot(seen, place) => Some(NodeSearch {
+        Stage::Slot { seen, place } => Some(NodeSearch {
             depth: descent.depth,
             seen,
             sought: Sought::Child(place),
@@ -418,7 +421,13 @@ fn search_on<S: Steps>(
             Sought::Nothing => {
                 *descent = Descent {
                     depth,
-                    stage: Stage::Decided(seen.stamp, Verdict::Free(seen.node, seen.header)),
+                    stage: Stage::Decided {
+                        stamp: seen.stamp,
+                        verdict: Verdict::NoChild {
+                            node: seen.node,
+                            header: seen.header,
+                        },
+                    },
                 };
                 return None;
             }
@@ -426,7 +435,7 @@ fn search_on<S: Steps>(
         if tally.left < 5 {
             *descent = Descent {
                 depth,
-                stage: Stage::Keys(seen, number),
+                stage: Stage::Keys { seen, number },
             };
             return None;
         }
@@ -461,7 +470,10 @@ fn child_at<S: Steps>(
     let Some(link) = Link::named_by(steps.read(seen.stamp, place)) else {
         *descent = Descent {
             depth,
-            stage: Stage::Decided(seen.stamp, Verdict::Absent),
+            stage: Stage::Decided {
+                stamp: seen.stamp,
+                verdict: Verdict::Absent,
+            },
         };
         return None;
     };
@@ -539,7 +551,11 @@ fn leaf_count<S: Steps>(
     if bytes == 0 || bytes > 64 {
         *descent = Descent {
             depth: below.depth,
-            stage: Stage::Length(below.above, leaf, value),
+            stage: Stage::Length {
+                stamp: below.above,
+                leaf,
+                value,
+            },
         };
         descent.read(key, bytes);
         return None;
@@ -584,7 +600,11 @@ fn compare_key<S: Steps>(
     }
     *descent = Descent {
         depth,
-        stage: Stage::Bytes(seen, number, beside),
+        stage: Stage::Bytes {
+            seen,
+            number,
+            before: beside,
+        },
     };
     tally.left -= 1;
     let word = steps.read_leaf(seen.stamp, seen.leaf, 2 + usize::from(number));
@@ -593,7 +613,7 @@ fn compare_key<S: Steps>(
 
 /// A version word was locked, obsolete or changed.
 #[cold]
-fn begin_anew<T>(tally: &mut Tally, descent: &mut Descent) -> Option<T>
+fn restart<T>(tally: &mut Tally, descent: &mut Descent) -> Option<T>
     requires { tally.old.restarts < 4294967295 }
     ensures none { result ≡ None }
     ensures left { tally.new.left ≡ tally.old.left }

@@ -7,17 +7,17 @@ use art_cell::Node;
 #[derive(Clone, Copy)]
 pub enum Verdict {
     /// The leaf with this number has the key, and this is its value.
-    Found(u32, u64),
+    Found { leaf: u32, value: u64 },
     /// The anchor names nothing.
     Empty,
     /// The leaf with this number stands on the key's way, and has another key: of the key's bytes the one with this index is the
     /// first that the other key does not have there; it has this byte.
-    OtherLeaf(u32, usize, u8),
+    LeafMismatch { leaf: u32, at: usize, byte: u8 },
     /// The node stands on the key's way and has this header; the byte of its prefix with this index is the first that is not the
     /// key's.
-    OtherPrefix(Node, u64, usize),
+    PrefixMismatch { node: Node, header: u64, at: usize },
     /// The node stands on the key's way and has this header; it has no child at the key's next byte.
-    Free(Node, u64),
+    NoChild { node: Node, header: u64 },
     /// The key ends where another goes on, or goes on where another ends: one begins the other.
     Overlaps,
     /// No tree has such words: the check will fail.
@@ -36,7 +36,7 @@ impl Verdict {
         ensures { result ≡ value_of self }
     {
         match self {
-            Verdict::Found(_, value) => Some(value),
+            Verdict::Found { value, .. } => Some(value),
             _ => None,
         }
     }

@@ -16,8 +16,8 @@ use Rattle.art_epoch.specs.Taking.{TookLowest}
 use Rattle.art_frame.specs.Stocks.{AreIn, HasStock, IsIn, count_in, first_in, hinted, hinted_at, node_in, node_link, nothing, one_of, set_node, with_leaf, with_node, without, without_all, words_written}
 use Rattle.art_frame.specs.declared.stocks.Hints.{Hints}
 use Rattle.art_frame.specs.declared.stocks.Stock.{Stock}
-use Rattle.art_make.specs.Making.{IsCommitted, linked}
-use Rattle.art_make.specs.Packing.{IsPacked}
+use Rattle.art_make.specs.Apply.{IsCommitted, linked}
+use Rattle.art_make.specs.LeafWriter.{IsPacked}
 use Rattle.art_make.specs.ArtPlan.Changes.{node_made}
 use Rattle.art_make.specs.ArtPlan.Whole.{node_copied}
 use Rattle.art_make.specs.ArtPlan.declared.changes.Change.{Change}

@@ -11,7 +11,7 @@ use Rattle.art_cell.specs.declared.layouts.Pool.TheVariants.{Leaves, N4, N16, N4
 use Rattle.art_make.specs.ArtCommit.CommitLaws.{HasNode}
 use Rattle.art_frame.specs.declared.stocks.Hints.{Hints}
 use Rattle.art_frame.specs.declared.stocks.Stock.{Stock}
-use Rattle.art_make.specs.Packing.{IsPacked}
+use Rattle.art_make.specs.LeafWriter.{IsPacked}
 use Rattle.art_step.specs.Views.{Member}
 use Rattle.art_step.specs.declared.views.InHand.{InHand}
 use Rattle.art_step.specs.WordPlaces.{free_words, pool_size}

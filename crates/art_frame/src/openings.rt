@@ -42,7 +42,10 @@ pub enum Opened {
 #[derive(Clone, Copy)]
 pub enum Opening {
     /// What waits goes back. The words that were found so far name this blocker of the first place that stays, if one stays.
-    Reclaiming(Reclaiming, Blocker),
+    Reclaiming {
+        reclaiming: Reclaiming,
+        blocker: Blocker,
+    },
     /// The pass is being pinned.
     Pinning(Pinning),
     Ended(Opened),
@@ -63,7 +66,10 @@ impl Opening {
             return Opening::Pinning(Pinning::new());
         }
         let nobody = Blocker { pass: 0, epoch: 0 };
-        Opening::Reclaiming(Reclaiming::new(own, passes), nobody)
+        Opening::Reclaiming {
+            reclaiming: Reclaiming::new(own, passes),
+            blocker: nobody,
+        }
     }
 
     /// The next step, or none where it has ended.
@@ -75,7 +81,7 @@ impl Opening {
             ended_at self.now ≡ None → (asked : ActionOf) × (result ≡ Some asked) }
     {
         match self {
-            Opening::Reclaiming(reclaiming, _) => reclaiming.next(limbo),
+            Opening::Reclaiming { reclaiming, .. } => reclaiming.next(limbo),
             Opening::Pinning(pinning) => pinning.next(),
             Opening::Ended(_) => None,
         }
@@ -92,9 +98,10 @@ impl Opening {
             Answers z None asked answer v w → OpeningFits z u ps self.new (places_of limbo.new) w }
     {
         *self = match *self {
-            Opening::Reclaiming(reclaiming, blocker) => {
-                reclaimed(limbo, reclaiming, blocker, answer)
-            }
+            Opening::Reclaiming {
+                reclaiming,
+                blocker,
+            } => { reclaimed(limbo, reclaiming, blocker, answer) }
             Opening::Pinning(pinning) => pinned(pinning, answer),
             Opening::Ended(opened) => Opening::Ended(opened),
         };
@@ -183,7 +190,10 @@ fn going_on(limbo: &Limbo, reclaiming: Reclaiming, blocker: Blocker) -> Opening
     ensures { result ≡ going_on (reclaims.asks_at reclaiming.stage (places_of limbo.now)) reclaiming blocker (places_of limbo.now) }
 {
     if let Some(_) = reclaiming.next(limbo) {
-        return Opening::Reclaiming(reclaiming, blocker);
+        return Opening::Reclaiming {
+            reclaiming,
+            blocker,
+        };
     }
     if limbo.room() < ROOM {
         return Opening::Ended(Opened::Crowded(blocker));

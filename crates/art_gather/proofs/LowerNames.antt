@@ -20,11 +20,11 @@ use Rattle.art_plan.specs.ChooseInsert.Bodies.{HasWords, IsFilled}
 use Rattle.art_find.proofs.Stages.{noted_names}
 use Rattle.art_gather.specs.Lowering.{HasLower, IsLed, IsLowering, IsParent, IsThird, WouldLead}
 use Rattle.art_find.proofs.Keeping.{path_passed}
-use Rattle.art_find.specs.Desks.{node_of}
+use Rattle.art_find.specs.ReadSets.{node_of}
 use Rattle.art_find.specs.Kept.{HasPath}
-use Rattle.art_find.specs.declared.desks.Desk.{Desk}
+use Rattle.art_find.specs.declared.read_sets.ReadSet.{ReadSet}
 use Rattle.art_find.specs.declared.findings.Above.{Above}
-use Rattle.art_find.specs.declared.findings.Stand.{Stand}
+use Rattle.art_find.specs.declared.findings.Position.{Position}
 use Rattle.art_plan.proofs.ChildPlaces.{IsPlaceOf, place_byte}
 use Rattle.art_step.proofs.Shows.{child_on}
 use Rattle.art_step.specs.Knowledge.{CellAt, HoldsAll, IsShape}
@@ -75,30 +75,30 @@ longer_by p r byte = omega (arith, length-append (p ++ r) (byte ∷ []), length-
 
 -- ---- the lower node
 
-module _ (z : Sizes) (k : List ℕ) (t : Stand) (n : Node) (desk : Desk) (u v : View) (lowering : IsLowering z k t n desk u v) where
+module _ (z : Sizes) (k : List ℕ) (t : Position) (n : Node) (read_set : ReadSet) (u v : View) (lowering : IsLowering z k t n read_set u v) where
   abbrev here : Node
   here = lowering.here
 
   abbrev on : t.stamp.cell ≡ cell.Node here
   on = lowering.is
 
-  whole : IsWhole z v t.stamp (node_of desk)
-  whole = node_whole z k t desk v lowering.vouching.standing lowering.whole
+  whole : IsWhole z v t.stamp (node_of read_set)
+  whole = node_whole z k t read_set v lowering.vouching.standing lowering.whole
 
-  filled : (body : Body) → HasWords here (node_of desk) body → IsFilled t.stamp.cell (node_of desk) body
+  filled : (body : Body) → HasWords here (node_of read_set) body → IsFilled t.stamp.cell (node_of read_set) body
   filled body has m at =
       let same : cell.Node here ≡ cell.Node m = sym on ∙ at in
       let one : here ≡ m = cc in
-      subst (λ (p : Node). HasWords p (node_of desk) body) one has
+      subst (λ (p : Node). HasWords p (node_of read_set) body) one has
 
   -- the pass may begin it
   pub may_begin : IsNamed v (cell.Node n) × HasVersion z (cell.Node n)
   may_begin =
-      let named = named_there z v t desk (node n) whole.words lowering.named in
+      let named = named_there z v t read_set (node n) whole.words lowering.named in
       (noted_names v t.stamp (node n) named.0, named.1)
 
   pub has_over : (a : Above) × (t.above ≡ Some a)
-  has_over = has_above z k t desk v lowering.vouching.standing here on
+  has_over = has_above z k t read_set v lowering.vouching.standing here on
 
   -- the word that names it is its child word
   word_is : (child_word (node n) ≡ lowering.named.word) × (link_of (child_word (node n)) ≡ Some (node n))
@@ -110,7 +110,7 @@ module _ (z : Sizes) (k : List ℕ) (t : Stand) (n : Node) (desk : Desk) (u v : 
 
   module _ (s : Cells) (shape : IsShape z s) (holds : HoldsAll v t.stamp s) where
     stands_here : StandsAt (heap_of s) (node here) whole.path.0
-    stands_here = stands z v t.stamp (node_of desk) whole s shape holds here on (body_read here (node_of desk)) (filled (body_read here (node_of desk)) (has_read here (node_of desk)))
+    stands_here = stands z v t.stamp (node_of read_set) whole s shape holds here on (body_read here (node_of read_set)) (filled (body_read here (node_of read_set)) (has_read here (node_of read_set)))
 
     -- the word is that of a byte's child
     child_byte : (byte : ℕ) × (byte < 256) × (child_of here.layout (s (cell.Node here)) byte ≡ Some (child_word (node n)))
@@ -128,34 +128,34 @@ module _ (z : Sizes) (k : List ℕ) (t : Stand) (n : Node) (desk : Desk) (u v : 
         (some.0, some.1, some.2 ∙ ap Some (word ∙ sym word_is.0)))
         (place_byte here.layout (s (cell.Node here)) name.place form at)
 
-    has_child : (body : Body) → HasWords here (node_of desk) body → HasLower body child_byte.0 n
+    has_child : (body : Body) → HasWords here (node_of read_set) body → HasLower body child_byte.0 n
     has_child body has = record {
       low = child_byte.1;
-      there = seen_child z v t.stamp (node_of desk) whole s shape holds here on body (filled body has) child_byte.0 child_byte.1 ∙ child_byte.2;
+      there = seen_child z v t.stamp (node_of read_set) whole s shape holds here on body (filled body has) child_byte.0 child_byte.1 ∙ child_byte.2;
     }
 
     -- so the words that were read are those of a node that has it
-    is_parent : IsParent t desk n
+    is_parent : IsParent t read_set n
     is_parent = record {
       here = here;
       is = on;
       byte = child_byte.0;
-      meaning = λ body has. seen_body z v t.stamp (node_of desk) whole s shape holds here on body (filled body has);
+      meaning = λ body has. seen_body z v t.stamp (node_of read_set) whole s shape holds here on body (filled body has);
       has = has_child;
     }
 
   -- by all that was noted it is the child at each byte at which the words that were read have it
-  module _ (a : Above) (is : t.above ≡ Some a) (body : Body) (byte : ℕ) (has : HasWords here (node_of desk) body) (lower : HasLower body byte n) where
+  module _ (a : Above) (is : t.above ≡ Some a) (body : Body) (byte : ℕ) (has : HasWords here (node_of read_set) body) (lower : HasLower body byte n) where
     abbrev led_by : List ℕ
     led_by = take a.depth k ++ prefix_of (word_of body) ++ byte ∷ []
 
     child_shows : Shows z v t.stamp (λ s. HasChild s t.stamp.cell (node n) led_by)
     child_shows s shape holds =
-        let at : StandsAt (heap_of s) (node here) (take a.depth k) = led_there z k t desk here on a is v s lowering.vouching.standing holds in
-        let word = sym (seen_child z v t.stamp (node_of desk) whole s shape holds here on body (filled body has) byte lower.low) ∙ lower.there in
+        let at : StandsAt (heap_of s) (node here) (take a.depth k) = led_there z k t read_set here on a is v s lowering.vouching.standing holds in
+        let word = sym (seen_child z v t.stamp (node_of read_set) whole s shape holds here on body (filled body has) byte lower.low) ∙ lower.there in
         let child : (heap_of s).child here byte ≡ Some (node n) = child_on s here byte (Some (child_word (node n))) lower.low word ∙ word_is.1 in
         let path : led_by ≡ path_past (heap_of s) here (take a.depth k) byte =
-        ap (λ (r : List ℕ). take a.depth k ++ r ++ byte ∷ []) (seen_prefix z v t.stamp (node_of desk) whole s shape holds here on body (filled body has)) in
+        ap (λ (r : List ℕ). take a.depth k ++ r ++ byte ∷ []) (seen_prefix z v t.stamp (node_of read_set) whole s shape holds here on body (filled body has)) in
         subst (λ (c : Cell). HasChild s c (node n) led_by) (sym on)
         (record { path = take a.depth k; there = at; byte = byte; names = child; at = down byte at child path })
 
@@ -163,25 +163,25 @@ module _ (z : Sizes) (k : List ℕ) (t : Stand) (n : Node) (desk : Desk) (u v : 
 
   module _ (w : View) (passed : check.Unchanged z v w t.stamp None) where
     -- the check showed such a tree
-    pub parent : IsParent t desk n
+    pub parent : IsParent t read_set n
     parent = is_parent passed.vouched.0 passed.vouched.1 passed.vouched.2
 
     -- each stamp of the lower node has its path
-    pub led_to : (d : Stamp) → Member d v.stamps → d.cell ≡ cell.Node n → IsLed k t desk n w d
+    pub led_to : (d : Stamp) → Member d v.stamps → d.cell ≡ cell.Node n → IsLed k t read_set n w d
     led_to d stamped at other a body byte is above has lower =
         let same : cell.Node other ≡ cell.Node here = sym is ∙ on in
         let one : other ≡ here = cc in
-        let words : HasWords here (node_of desk) body = subst (λ (m : Node). HasWords m (node_of desk) body) one has in
+        let words : HasWords here (node_of read_set) body = subst (λ (m : Node). HasWords m (node_of read_set) body) one has in
         path_passed z v w t.stamp d None n (led_by a above body byte words lower) passed stamped at (child_shows a above body byte words lower)
 
     abbrev byte : ℕ
     byte = (child_byte passed.vouched.0 passed.vouched.1 passed.vouched.2).0
 
     abbrev read : Body
-    read = body_read here (node_of desk)
+    read = body_read here (node_of read_set)
 
-    words : HasWords here (node_of desk) read
-    words = has_read here (node_of desk)
+    words : HasWords here (node_of read_set) read
+    words = has_read here (node_of read_set)
 
     has_lower : HasLower read byte n
     has_lower = has_child passed.vouched.0 passed.vouched.1 passed.vouched.2 read words
@@ -198,17 +198,17 @@ module _ (z : Sizes) (k : List ℕ) (t : Stand) (n : Node) (desk : Desk) (u v : 
   -- ---- the cell above was checked
 
   -- it is another one
-  pub is_third : (w : View) (a : Above) → t.above ≡ Some a → IsParent t desk n → WouldLead k t desk n v → check.Unchanged z v w a.stamp None → IsThird t n
+  pub is_third : (w : View) (a : Above) → t.above ≡ Some a → IsParent t read_set n → WouldLead k t read_set n v → check.Unchanged z v w a.stamp None → IsThird t n
   is_third w a is parent leads passed b at same =
       let one : b ≡ a = same_Some {A = Above} b a (sym at ∙ is) in
       let equal : a.stamp.cell ≡ cell.Node n = subst (λ (c : Above). c.stamp.cell ≡ cell.Node n) one same in
       let s = passed.vouched in
-      let body = body_read parent.here (node_of desk) in
-      let has = has_read parent.here (node_of desk) in
+      let body = body_read parent.here (node_of read_set) in
+      let has = has_read parent.here (node_of read_set) in
       let led = leads a is equal parent.here a body parent.byte parent.is is has (parent.has body has) in
       let path : List ℕ = take a.depth k ++ prefix_of (word_of body) ++ parent.byte ∷ [] in
       not_below z s.0 a.stamp.cell n here (take a.depth k) path s.1
-      ((above_is z k t desk v lowering.vouching.standing here on a is).shows s.0 s.1 s.2)
+      ((above_is z k t read_set v lowering.vouching.standing here on a is).shows s.0 s.1 s.2)
       equal
       (s.2 (note_of a.stamp (Starts path)) led refl)
       (longer_by (take a.depth k) (prefix_of (word_of body)) parent.byte)

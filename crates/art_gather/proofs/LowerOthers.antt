@@ -18,9 +18,9 @@ use Rattle.art_gather.proofs.LowerSeen.{ended_fits}
 use Rattle.art_gather.specs.Lowering.{Fits, HasLower, IsLowering, IsParent, ended_at}
 use Rattle.art_gather.specs.declared.lowering.Lowered.TheVariants.{Unchanged}
 use Rattle.art_gather.specs.declared.lowering.Lowering.{Lowering}
-use Rattle.art_find.specs.Desks.{node_of}
-use Rattle.art_find.specs.declared.desks.Desk.{Desk}
-use Rattle.art_find.specs.declared.findings.Stand.{Stand}
+use Rattle.art_find.specs.ReadSets.{node_of}
+use Rattle.art_find.specs.declared.read_sets.ReadSet.{ReadSet}
+use Rattle.art_find.specs.declared.findings.Position.{Position}
 use Rattle.art_plan.proofs.SiteWords.{children_read}
 use Rattle.art_plan.proofs.FewChildren.{no_third}
 use Rattle.art_plan.proofs.GoneNodes.{fits_there}
@@ -66,19 +66,19 @@ module _ (z : Sizes) (v : View) (x : Stamp) (reads : List (Option ℕ)) (whole :
 
 -- ---- a lowering that ended so
 
-other_of : (z : Sizes) (k : List ℕ) (t : Stand) (n : Node) (desk : Desk) (u v : View) → IsLowering z k t n desk u v → IsParent t desk n → (old : OldLeaf) (beside : ℕ) (d : Link) → HasOther t desk old beside d → d ≡ node n
-other_of z k t n desk u v lowering parent old beside d other =
-    let body = body_read parent.here (node_of desk) in
-    let has = has_read parent.here (node_of desk) in
-    let words : (m : Node) → t.stamp.cell ≡ cell.Node m → HasWords m (node_of desk) body = (λ (m : Node) (at : t.stamp.cell ≡ cell.Node m).
+other_of : (z : Sizes) (k : List ℕ) (t : Position) (n : Node) (read_set : ReadSet) (u v : View) → IsLowering z k t n read_set u v → IsParent t read_set n → (old : OldLeaf) (beside : ℕ) (d : Link) → HasOther t read_set old beside d → d ≡ node n
+other_of z k t n read_set u v lowering parent old beside d other =
+    let body = body_read parent.here (node_of read_set) in
+    let has = has_read parent.here (node_of read_set) in
+    let words : (m : Node) → t.stamp.cell ≡ cell.Node m → HasWords m (node_of read_set) body = (λ (m : Node) (at : t.stamp.cell ≡ cell.Node m).
     let same : cell.Node parent.here ≡ cell.Node m = sym parent.is ∙ at in
     let one : parent.here ≡ m = cc in
-    subst (λ (p : Node). HasWords p (node_of desk) body) one has) in
-    of_pair z v t.stamp (node_of desk) (node_whole z k t desk v lowering.vouching.standing lowering.whole) parent.here parent.is body words
+    subst (λ (p : Node). HasWords p (node_of read_set) body) one has) in
+    of_pair z v t.stamp (node_of read_set) (node_whole z k t read_set v lowering.vouching.standing lowering.whole) parent.here parent.is body words
     _ old.number beside d (other.pair body (words other.node other.is)) parent.byte n (parent.has body has)
 
-pub ends_other : (z : Sizes) (k : List ℕ) (t : Stand) (n : Node) (m : Lowering) (desk : Desk) (lower : List (Option ℕ)) (u v : View) (x : Stamp) → ended_at m ≡ Some (Unchanged x)
-    → Fits z k t n m desk lower u v → (old : OldLeaf) (beside : ℕ) (d : Link) → HasOther t desk old beside d → d ≡ node n
-ends_other z k t n m desk lower u v x is fits =
-    let now = ended_fits z k t n m desk lower u v x is fits in
-    other_of z k t n desk u v now.stage.0 now.stage.2.below.parent
+pub ends_other : (z : Sizes) (k : List ℕ) (t : Position) (n : Node) (m : Lowering) (read_set : ReadSet) (lower : List (Option ℕ)) (u v : View) (x : Stamp) → ended_at m ≡ Some (Unchanged x)
+    → Fits z k t n m read_set lower u v → (old : OldLeaf) (beside : ℕ) (d : Link) → HasOther t read_set old beside d → d ≡ node n
+ends_other z k t n m read_set lower u v x is fits =
+    let now = ended_fits z k t n m read_set lower u v x is fits in
+    other_of z k t n read_set u v now.stage.0 now.stage.2.below.parent

@@ -21,10 +21,10 @@ use Rattle.art_gather.specs.declared.lowering.Lowered.{Lowered}
 use Rattle.art_gather.specs.declared.lowering.Lowered.TheVariants.{Unchanged}
 use Rattle.art_gather.specs.declared.lowering.Lowering.{Lowering}
 use Rattle.art_gather.specs.declared.lowering.Lowering.TheVariants.{Ended}
-use Rattle.art_find.specs.Desks.{node_of}
+use Rattle.art_find.specs.ReadSets.{node_of}
 use Rattle.art_find.specs.Findings.{IsStanding}
-use Rattle.art_find.specs.declared.desks.Desk.{Desk}
-use Rattle.art_find.specs.declared.findings.Stand.{Stand}
+use Rattle.art_find.specs.declared.read_sets.ReadSet.{ReadSet}
+use Rattle.art_find.specs.declared.findings.Position.{Position}
 use Rattle.art_plan.specs.Seen.{IsReadWhole}
 use Rattle.art_step.specs.Knowledge.{CellAt}
 use Rattle.art_step.specs.Views.{note_of}
@@ -35,8 +35,8 @@ use Rattle.art_step.specs.declared.views.View.{View}
 use Rattle.art_tree.specs.Heaps.{Cells, heap_of}
 use Rattle.art_tree.specs.Tree.{StandsAt}
 
-module _ (z : Sizes) (k : List ℕ) (t : Stand) (desk : Desk) (n : Node) (x : Stamp) (lower : List (Option ℕ)) where
-  below_whole : (v : View) → IsBelow z k t desk n x lower v → KnowsLower x lower → IsWhole z v x lower
+module _ (z : Sizes) (k : List ℕ) (t : Position) (read_set : ReadSet) (n : Node) (x : Stamp) (lower : List (Option ℕ)) where
+  below_whole : (v : View) → IsBelow z k t read_set n x lower v → KnowsLower x lower → IsWhole z v x lower
   below_whole v below whole = record { stamp = below.on.stamp; path = below.path; words = below.on.kept; known = whole }
 
   below_filled : (body : Body) → x.cell ≡ cell.Node n → HasWords n lower body → IsFilled x.cell lower body
@@ -45,7 +45,7 @@ module _ (z : Sizes) (k : List ℕ) (t : Stand) (desk : Desk) (n : Node) (x : St
       let one : n ≡ m = cc in
       subst (λ (p : Node). HasWords p lower body) one has
 
-  module _ (u v : View) (seen : IsLowered z k t desk n x lower u v) where
+  module _ (u v : View) (seen : IsLowered z k t read_set n x lower u v) where
     -- the tree of its check
     abbrev tree : Cells
     tree = seen.was.passed.vouched.0
@@ -62,21 +62,21 @@ module _ (z : Sizes) (k : List ℕ) (t : Stand) (desk : Desk) (n : Node) (x : St
         seen_body z was.before x lower (below_whole was.before was.below seen.whole) tree holds.1 holds.2 n cell_is body (below_filled body cell_is has)
 
     -- in the tree that the check showed the lower node stands at its path, and has its prefix
-    joins_short : IsLowering z k t n desk u v → JoinsShort t desk n lower
+    joins_short : IsLowering z k t n read_set u v → JoinsShort t read_set n lower
     joins_short lowering here a upper body on is above has =
         let was = seen.was in
         let cell_is = was.below.on.cell in
         let parent = was.below.parent in
         let one : cell.Node parent.here ≡ cell.Node here = sym parent.is ∙ on in
         let same : parent.here ≡ here = cc in
-        let words : HasWords parent.here (node_of desk) upper = subst (λ (m : Node). HasWords m (node_of desk) upper) (sym same) above in
+        let words : HasWords parent.here (node_of read_set) upper = subst (λ (m : Node). HasWords m (node_of read_set) upper) (sym same) above in
         let path : List ℕ = take a.depth k ++ prefix_of (word_of upper) ++ parent.byte ∷ [] in
         let holds = was.passed.vouched in
         let at : StandsAt (heap_of tree) (node n) path =
         subst (λ (c : Cell). CellAt tree c path) cell_is (holds.2 (note_of x (Starts path)) (was.below.led here a upper parent.byte on is above (parent.has upper words)) refl) in
         let short = holds.1.tree.short n path at in
         let prefix = ap length (seen_prefix z was.before x lower (below_whole was.before was.below seen.whole) tree holds.1 holds.2 n cell_is body (below_filled body cell_is has)) in
-        let deep = (above_is z k t desk v lowering.vouching.standing here on a is).deep in
+        let deep = (above_is z k t read_set v lowering.vouching.standing here on a is).deep in
         let front = length-take-le a.depth k deep in
         omega (arith, short, prefix, front, length-append (take a.depth k ++ prefix_of (word_of upper)) (parent.byte ∷ []), length-append (take a.depth k) (prefix_of (word_of upper)))
 
@@ -85,7 +85,7 @@ module _ (z : Sizes) (k : List ℕ) (t : Stand) (desk : Desk) (n : Node) (x : St
     lower_known byte =
         let was = seen.was in
         let holds = was.passed.vouched in
-        let still : (w : View) → IsBelow z k t desk n x lower w → StillKnown z w (record { stamp = x; node = n; byte = byte }) lower =
+        let still : (w : View) → IsBelow z k t read_set n x lower w → StillKnown z w (record { stamp = x; node = n; byte = byte }) lower =
         (λ w below. record { cell = below.on.cell; stamp = below.on.stamp; path = below.path; kept = below.on.kept }) in (
           record { view = was.before; known = still was.before was.below; tree = tree; shape = holds.1; holds = holds.2; whole = seen.whole },
           still v seen.below,
@@ -93,32 +93,32 @@ module _ (z : Sizes) (k : List ℕ) (t : Stand) (desk : Desk) (n : Node) (x : St
 
 -- ---- a lowering that ended so
 
-pub ended_fits : (z : Sizes) (k : List ℕ) (t : Stand) (n : Node) (m : Lowering) (desk : Desk) (lower : List (Option ℕ)) (u v : View) (x : Stamp) → ended_at m ≡ Some (Unchanged x)
-    → Fits z k t n m desk lower u v → Fits z k t n (Ended (Unchanged x)) desk lower u v
-ended_fits z k t n (Ended r) desk lower u v x is fits = subst (λ (o : Lowered). Fits z k t n (Ended o) desk lower u v) (same_Some {A = Lowered} r (Unchanged x) is) fits
-ended_fits z k t n m desk lower u v x is fits = absurd (cc)
+pub ended_fits : (z : Sizes) (k : List ℕ) (t : Position) (n : Node) (m : Lowering) (read_set : ReadSet) (lower : List (Option ℕ)) (u v : View) (x : Stamp) → ended_at m ≡ Some (Unchanged x)
+    → Fits z k t n m read_set lower u v → Fits z k t n (Ended (Unchanged x)) read_set lower u v
+ended_fits z k t n (Ended r) read_set lower u v x is fits = subst (λ (o : Lowered). Fits z k t n (Ended o) read_set lower u v) (same_Some {A = Lowered} r (Unchanged x) is) fits
+ended_fits z k t n m read_set lower u v x is fits = absurd (cc)
 
-pub ends_seen : (z : Sizes) (k : List ℕ) (t : Stand) (n : Node) (m : Lowering) (desk : Desk) (lower : List (Option ℕ)) (u v : View) (x : Stamp) → ended_at m ≡ Some (Unchanged x)
-    → Fits z k t n m desk lower u v → IsReadBelow z t desk n x lower v
-ends_seen z k t n m desk lower u v x is fits =
-    let now = ended_fits z k t n m desk lower u v x is fits in
+pub ends_seen : (z : Sizes) (k : List ℕ) (t : Position) (n : Node) (m : Lowering) (read_set : ReadSet) (lower : List (Option ℕ)) (u v : View) (x : Stamp) → ended_at m ≡ Some (Unchanged x)
+    → Fits z k t n m read_set lower u v → IsReadBelow z t read_set n x lower v
+ends_seen z k t n m read_set lower u v x is fits =
+    let now = ended_fits z k t n m read_set lower u v x is fits in
     record {
-      whole = reads_whole z k t desk n x lower u v now.stage.2;
-      meaning = reads_node z k t desk n x lower u v now.stage.2;
-      short = joins_short z k t desk n x lower u v now.stage.2 now.stage.0;
+      whole = reads_whole z k t read_set n x lower u v now.stage.2;
+      meaning = reads_node z k t read_set n x lower u v now.stage.2;
+      short = joins_short z k t read_set n x lower u v now.stage.2 now.stage.0;
       third = now.stage.2.third;
     }
 
 -- in the terms of a plan
-pub ends_known : (z : Sizes) (k : List ℕ) (t : Stand) (lower : Lower) (m : Lowering) (desk : Desk) (reads : List (Option ℕ)) (u v : View) → ended_at m ≡ Some (Unchanged lower.stamp)
-    → Fits z k t lower.node m desk reads u v → AreSeen z k t desk × IsLowerSeen z lower reads × IsStanding z k t desk v × StillKnown z v lower reads
-ends_known z k t lower m desk reads u v is fits =
-    let now = ended_fits z k t lower.node m desk reads u v lower.stamp is fits in
+pub ends_known : (z : Sizes) (k : List ℕ) (t : Position) (lower : Lower) (m : Lowering) (read_set : ReadSet) (reads : List (Option ℕ)) (u v : View) → ended_at m ≡ Some (Unchanged lower.stamp)
+    → Fits z k t lower.node m read_set reads u v → AreSeen z k t read_set × IsLowerSeen z lower reads × IsStanding z k t read_set v × StillKnown z v lower reads
+ends_known z k t lower m read_set reads u v is fits =
+    let now = ended_fits z k t lower.node m read_set reads u v lower.stamp is fits in
     let both = now.stage.1 in
-    let known = lower_known z k t desk lower.node lower.stamp reads u v now.stage.2 lower.byte in (
+    let known = lower_known z k t read_set lower.node lower.stamp reads u v now.stage.2 lower.byte in (
       record {
-        node = (was_vouched z k t desk u t.stamp v both.here, both.whole);
-        above = λ a at. (was_vouched z k t desk u a.stamp v (both.above a at), both.all a at);
+        node = (was_vouched z k t read_set u t.stamp v both.here, both.whole);
+        above = λ a at. (was_vouched z k t read_set u a.stamp v (both.above a at), both.all a at);
       },
       known.0,
       now.stage.0.vouching.standing,

@@ -1,8 +1,8 @@
 -- Numbers come into the hand one after another, and the leaf gets its words.
-use Rattle.std.proofs.Common.{◌≡◌, ◌≢◌, ℕ, ◌+◌, ◌<◌, ◌≤◌, Bool, true, false, List, length, Option, Some, None, nat_lt, refl, sym, ap, ◌∙◌, subst, arith, ⊎_elim, if◌then◌else◌}
+use Rattle.std.proofs.Common.{◌≡◌, ◌≢◌, ℕ, ◌+◌, ◌<◌, ◌≤◌, Bool, true, false, List, length, Option, Some, None, nat_lt, inr, refl, sym, ap, ◌∙◌, ◌==◌, subst, arith, ⊎_elim, if◌then◌else◌}
 use Rattle.std.specs.Option.{option_and_then, option_map}
 use Rattle.std.specs.Prelude.{IfSome}
-use Rattle.std.proofs.lemmas.Bool.{cases_eq, lt-ltb, ltb-true}
+use Rattle.std.proofs.lemmas.Bool.{cases_Bool, cases_eq, lt-ltb, ltb-true}
 use Rattle.std.proofs.lemmas.Option.{same_Some}
 use Rattle.art_cell.specs.Children.{number_of}
 use Rattle.art_cell.specs.declared.cells.Link.{Link}
@@ -26,20 +26,22 @@ use Rattle.art_epoch.specs.declared.taking.Taking.{Taking}
 use Rattle.art_frame.proofs.Stocked.{stock_same, stock_took_leaf, stock_took_node, taken_node}
 use Rattle.art_frame.specs.Stocks.{HasStock, IsIn, node_in, with_leaf, with_node, words_written}
 use Rattle.art_frame.specs.declared.stocks.Stock.{Stock}
-use Rattle.art_machine.proofs.Words.{done_row}
-use Rattle.art_machine.specs.Acting.{Answers, IsAllowed}
-use Rattle.art_gather.specs.Supplying.{Fits, HasLeafWords, HasNone, IsPacking, IsSoon, IsSought, IsWanted, OnlySupplies, StageFits, asks, few_steps, leaf_asked, leaf_looks, leaf_steps, looks_before, most_steps, node_looks, node_steps, search_looks, search_steps, steps_before}
-use Rattle.art_gather.specs.declared.supplying.Supplying.{Supplying}
-use Rattle.art_gather.specs.declared.supplying.Supplying.TheVariants as stage
-use Rattle.art_gather.specs.declared.supplying.Wants.{Wants}
+use Rattle.art_machine.proofs.Words.{done_row, word_row}
+use Rattle.art_machine.specs.Acting.{Answers, IsAllowed, word_in}
+use Rattle.art_gather.specs.Reserve.{Fits, HasLeafWords, HasNone, IsPacking, IsSoon, IsSought, IsWanted, OnlySupplies, StageFits, StayFound, asks, few_steps, leaf_asked, leaf_looks, leaf_steps, looks_before, most_steps, node_looks, node_steps, search_looks, search_steps, steps_before}
+use Rattle.art_gather.specs.declared.reserve.Reserve.{Reserve}
+use Rattle.art_gather.specs.declared.reserve.Reserve.TheVariants as stage
+use Rattle.art_gather.specs.declared.reserve.Demand.{Demand}
 use Rattle.art_frame.proofs.ArtMake.PackedLeaves.{word_form}
-use Rattle.art_frame.specs.ArtMake.Packing.{IsPacked, OnlyPacks, PackingFits, word_asked}
-use Rattle.art_frame.specs.ArtMake.declared.packing.Packing.{Packing}
+use Rattle.art_frame.specs.ArtMake.LeafWriter.{IsPacked, OnlyPacks, LeafWriterFits, word_asked}
+use Rattle.art_frame.specs.ArtMake.declared.leaf_writer.LeafWriter.{LeafWriter}
+use Rattle.art_step.specs.Steps.Take as take_free
 use Rattle.art_step.specs.Steps.Write as write
 use Rattle.art_step.specs.Tokens.{link_of_number}
-use Rattle.art_step.specs.Views.{IsInHand, Member, pool_of_layout}
+use Rattle.art_step.specs.Views.{IsInHand, Member, bit_of, pool_of_layout}
 use Rattle.art_step.specs.WordPlaces.{free_words, pool_size}
 use Rattle.art_step.specs.declared.numbers.Number.{Number}
+use Rattle.art_step.specs.declared.views.Found.{Found}
 use Rattle.art_step.specs.declared.views.InHand.{InHand}
 use Rattle.art_step.specs.declared.views.Sizes.{Sizes}
 use Rattle.art_step.specs.declared.views.View.{View}
@@ -84,6 +86,9 @@ module _ (z : Sizes) (k : List ℕ) (value : ℕ) (s : Stock) (u : View) (t : Ta
   only_sought : OnlyTakes u v
   only_sought = takes_then u p.early v p.base.only p.seeks.only
 
+  found_sought : StayFound u v
+  found_sought x m = p.found x (p.base.found x m)
+
   later_sought : u.steps ≤ v.steps
   later_sought = let a = p.base.later in let b = p.seeks.some in omega arith
 
@@ -107,38 +112,39 @@ module _ (z : Sizes) (k : List ℕ) (value : ℕ) (s : Stock) (u : View) (t : Ta
       let few = a.counted in
       record { steps = omega (arith, most); counted = omega (arith, few) }
 
-  pub leaf_few : (wants : Wants) → pool ≡ Leaves → IsSoon u v (most_steps z wants) (few_steps z wants)
-  leaf_few wants is =
+  pub leaf_few : (demand : Demand) → pool ≡ Leaves → IsSoon u v (most_steps z demand) (few_steps z demand)
+  leaf_few demand is =
       let a = leaf_soon is in
       let most = a.steps in
       let few = a.counted in
       record { steps = omega (arith, most); counted = omega (arith, few) }
 
-  pub node_few : (wants : Wants) (layout : Layout) → wants.node ≡ Some layout → pool ≡ pool_of_layout layout → IsSoon u v (most_steps z wants) (few_steps z wants)
-  node_few wants layout want is =
+  pub node_few : (demand : Demand) (layout : Layout) → demand.node ≡ Some layout → pool ≡ pool_of_layout layout → IsSoon u v (most_steps z demand) (few_steps z demand)
+  node_few demand layout want is =
       let a = subst (λ (q : Pool). IsSoon u v (steps_before z q + search_steps z q) (looks_before z q + search_looks z q)) is soon_sought in
       let most = a.steps in
       let few = a.counted in
       let before = before_node z layout in
       let looked = looked_before_node z layout in
-      let steps : node_steps z wants.node ≡ search_steps z (pool_of_layout layout) = ap (node_steps z) want in
-      let looks : node_looks z wants.node ≡ search_looks z (pool_of_layout layout) = ap (node_looks z) want in
+      let steps : node_steps z demand.node ≡ search_steps z (pool_of_layout layout) = ap (node_steps z) want in
+      let looks : node_looks z demand.node ≡ search_looks z (pool_of_layout layout) = ap (node_looks z) want in
       record { steps = omega (arith, most, before, steps); counted = omega (arith, few, looked, looks) }
 
   pub sought_on : (a : Action) → taking.asks t ≡ Some a → OnlySupplies z k value s u v
   sought_on a is = record {
     only = only_sought;
+    found = found_sought;
     later = later_sought;
     failures = failures_sought;
     has = stock_same z k value p.early v s (searching_hand z p.early v t.pool t.words t.first t.search a p.seeks.search is) p.base.has;
   }
 
   pub sought_none : TookNone z p.early v t.pool → OnlySupplies z k value s u v
-  sought_none none = record { only = only_sought; later = later_sought; failures = failures_sought; has = stock_same z k value p.early v s none.hand p.base.has }
+  sought_none none = record { only = only_sought; found = found_sought; later = later_sought; failures = failures_sought; has = stock_same z k value p.early v s none.hand p.base.has }
 
   -- and each word of the pool was found to give none
-  pub none_sought : (wants : Wants) → IsWanted wants pool → TookNone z p.early v t.pool → HasNone z wants pool u v
-  none_sought wants wanted none = record {
+  pub none_sought : (demand : Demand) → IsWanted demand pool → TookNone z p.early v t.pool → HasNone z demand pool u v
+  none_sought demand wanted none = record {
     wanted = wanted;
     since = p.early.steps;
     after = p.base.later;
@@ -148,6 +154,7 @@ module _ (z : Sizes) (k : List ℕ) (value : ℕ) (s : Stock) (u : View) (t : Ta
   pub sought_leaf : (d : Link) → pool ≡ Leaves → TookLowest z p.early v t.pool d → s.leaf ≡ None → OnlySupplies z k value (with_leaf (number_of d) s) u v
   sought_leaf d is took none = record {
     only = only_sought;
+    found = found_sought;
     later = later_sought;
     failures = failures_sought;
     has = stock_took_leaf z k value p.early v d s (subst (λ (q : Pool). TookLowest z p.early v q d) (p.pool_is ∙ is) took) none p.base.has;
@@ -157,6 +164,7 @@ module _ (z : Sizes) (k : List ℕ) (value : ℕ) (s : Stock) (u : View) (t : Ta
       → OnlySupplies z k value (with_node (taken_node layout d) s) u v
   sought_node layout d is took none = record {
     only = only_sought;
+    found = found_sought;
     later = later_sought;
     failures = failures_sought;
     has = stock_took_node z k value p.early v layout d s (subst (λ (q : Pool). TookLowest z p.early v q d) (p.pool_is ∙ is) took) none p.base.has;
@@ -165,19 +173,47 @@ module _ (z : Sizes) (k : List ℕ) (value : ℕ) (s : Stock) (u : View) (t : Ta
 -- it begins
 pub begins_sought : (z : Sizes) (k : List ℕ) (value : ℕ) (s : Stock) (u v : View) (t : Taking) (pool : Pool) → OnlySupplies z k value s u v → IsSoon u v (steps_before z pool) (looks_before z pool) → taking.Fits z v t v → t.pool ≡ pool
     → IsSought z k value s u t pool v
-begins_sought z k value s u v t pool base soon fits is = record { early = v; base = base; soon = soon; seeks = fits; pool_is = is }
+begins_sought z k value s u v t pool base soon fits is = record { early = v; base = base; found = λ x m. m; soon = soon; seeks = fits; pool_is = is }
 
 -- no step was made
 pub soon_first : (u : View) (most few : ℕ) → IsSoon u u most few
 soon_first u most few = record { steps = omega arith; counted = omega arith }
 
 pub begins_supplies : (z : Sizes) (k : List ℕ) (value : ℕ) (s : Stock) (u : View) → HasStock z k value u s → OnlySupplies z k value s u u
-begins_supplies z k value s u has = record { only = refl; later = omega arith; failures = omega arith; has = has }
+begins_supplies z k value s u has = record { only = refl; found = λ x m. m; later = omega arith; failures = omega arith; has = has }
 
--- a word was found
+-- a word was found, and those that were found before stay so
+found_after : (v : View) (pool : Pool) (i : ℕ) (bit : Option ℕ) (x : ℕ) (ws : List ℕ) → (take_free.view_after v pool i bit x ws).found ≡ (take_free.view_noted v pool i x).found
+found_after v pool i None x ws = refl
+found_after v pool i (Some k) x ws = ⊎_elim
+    (λ (e : (bit_of x k == 1) ≡ true). rw e refl)
+    (λ (e : (bit_of x k == 1) ≡ false). rw e refl)
+    (cases_Bool (bit_of x k == 1))
+
+cleared_found : (z : Sizes) (pool : Pool) (i : ℕ) (bit : Option ℕ) (answer : Answer) (v w : View) → Answers z None (ClearBit pool i bit) answer v w → StayFound v w
+cleared_found z pool i bit answer v w row x m =
+    let o = word_row z None (ClearBit pool i bit) answer v w tt row in
+    subst (λ (xs : List Found). Member x xs) (sym (ap (λ (t : View). t.found) o.is ∙ found_after v pool i bit (word_in answer) o.words)) (inr m)
+
+taken_found : (z : Sizes) (t : Taking) (a : Action) (answer : Answer) (v w : View) → taking.asks t ≡ Some a → Answers z None a answer v w → StayFound v w
+taken_found z t a answer v w is row = by_search t.search is
+  where
+    by_action : (b : Action) → b ≡ a → ((u : View) → Answers z None b answer v u → StayFound v u) → StayFound v w
+    by_action b same stay = stay w (subst (λ (q : Action). Answers z None q answer v w) (sym same) row)
+
+    by_test : (n : ℕ) (b : Bool) → nat_lt n t.words ≡ b → (if b then Some (ClearBit t.pool (taking.around t.words t.first n) None) else None) ≡ Some a → StayFound v w
+    by_test n true low e = by_action (ClearBit t.pool (taking.around t.words t.first n) None) (same_Some {A = Action} _ a e) (λ u. cleared_found z t.pool (taking.around t.words t.first n) None answer v u)
+    by_test n false low e = absurd (cc)
+
+    by_search : (s : Search) → taking.asks_at t.pool t.words t.first s ≡ Some a → StayFound v w
+    by_search (Looking n) e = by_test n (nat_lt n t.words) refl e
+    by_search (Clearing n k) e = by_action (ClearBit t.pool (taking.around t.words t.first n) (Some k)) (same_Some {A = Action} _ a e) (λ u. cleared_found z t.pool (taking.around t.words t.first n) (Some k) answer v u)
+    by_search (Took n k) e = absurd (cc)
+
 module _ (z : Sizes) (k : List ℕ) (value : ℕ) (s : Stock) (u : View) (t t' : Taking) (pool : Pool) (v w : View) (p : IsSought z k value s u t pool v) where
-  pub told_sought : t'.pool ≡ t.pool → taking.Fits z p.early t' w → IsSought z k value s u t' pool w
-  told_sought same fits = record { early = p.early; base = p.base; soon = p.soon; seeks = fits; pool_is = same ∙ p.pool_is }
+  pub told_sought : (a : Action) (answer : Answer) → taking.asks t ≡ Some a → Answers z None a answer v w → t'.pool ≡ t.pool → taking.Fits z p.early t' w → IsSought z k value s u t' pool w
+  told_sought a answer is row same fits =
+      record { early = p.early; base = p.base; found = λ x m. taken_found z t a answer v w is row x (p.found x m); soon = p.soon; seeks = fits; pool_is = same ∙ p.pool_is }
 
 -- ---- the leaf gets its words
 
@@ -217,36 +253,39 @@ packed_none : (z : Sizes) (w : View) (l : ℕ) (k : List ℕ) (value place : ℕ
 packed_none z w l k value place p = record { is = p.is; words = λ i low. absurd (omega arith) }
 
 -- its next word is asked for
-pub asks_word : (k : List ℕ) (value : ℕ) (s : Stock) (p : Packing) (l : ℕ) (a : Action) → s.leaf ≡ Some l → word_asked l k value p.place ≡ Some a
+pub asks_word : (k : List ℕ) (value : ℕ) (s : Stock) (p : LeafWriter) (l : ℕ) (a : Action) → s.leaf ≡ Some l → word_asked l k value p.place ≡ Some a
     → option_and_then (leaf_asked k value p) s.leaf ≡ Some a
 asks_word k value s p l a at is = ap (option_and_then (leaf_asked k value p)) at ∙ is
 
 -- a word of it was written
-module _ (z : Sizes) (wants : Wants) (k : List ℕ) (value : ℕ) (s : Stock) (u : View) (p : Packing) (v w : View) (f : Fits z wants k value (stage.Packing p) s u v) where
-  abbrev packing : IsPacking z k value s u p v
-  packing = f.stage.1
+module _ (z : Sizes) (demand : Demand) (k : List ℕ) (value : ℕ) (s : Stock) (u : View) (p : LeafWriter) (v w : View) (f : Fits z demand k value (stage.LeafWriter p) s u v) where
+  abbrev leaf_writer : IsPacking z k value s u p v
+  leaf_writer = f.stage.1
 
   abbrev next_word : Action
-  next_word = WriteLeaf packing.leaf p.place (leaf_word k value p.place)
+  next_word = WriteLeaf leaf_writer.leaf p.place (leaf_word k value p.place)
 
-  pub asks_next : word_asked packing.leaf k value p.place ≡ Some next_word
-  asks_next = rw (lt-ltb p.place 10 packing.more) refl
+  pub asks_next : word_asked leaf_writer.leaf k value p.place ≡ Some next_word
+  asks_next = rw (lt-ltb p.place 10 leaf_writer.more) refl
 
   asked_word : (asked : Action) → option_and_then (leaf_asked k value p) s.leaf ≡ Some asked → next_word ≡ asked
-  asked_word asked is = same_Some {A = Action} next_word asked (sym (asks_word k value s p packing.leaf next_word packing.is asks_next) ∙ is)
+  asked_word asked is = same_Some {A = Action} next_word asked (sym (asks_word k value s p leaf_writer.leaf next_word leaf_writer.is asks_next) ∙ is)
 
   module _ (asked : Action) (answer : Answer) (is : option_and_then (leaf_asked k value p) s.leaf ≡ Some asked) (row : Answers z None asked answer v w) where
     pub next_row : Answers z None next_word answer v w
     next_row = subst (λ (q : Action). Answers z None q answer v w) (sym (asked_word asked is)) row
 
-    wrote_word : (y : InHand) → IsInHand v (leaf packing.leaf) y → write.LeafOutcome v w y p.place (leaf_word k value p.place)
+    wrote_word : (y : InHand) → IsInHand v (leaf leaf_writer.leaf) y → write.LeafOutcome v w y p.place (leaf_word k value p.place)
     wrote_word = done_row z None next_word answer v w tt next_row
 
-    wrote : write.LeafOutcome v w packing.packs.packed.is.hand p.place (leaf_word k value p.place)
-    wrote = wrote_word packing.packs.packed.is.hand packing.packs.packed.is.has
+    wrote : write.LeafOutcome v w leaf_writer.packs.packed.is.hand p.place (leaf_word k value p.place)
+    wrote = wrote_word leaf_writer.packs.packed.is.hand leaf_writer.packs.packed.is.has
 
     pub one_written : w.steps ≡ v.steps + 1
     one_written = ap (λ (t : View). t.steps) wrote.is
+
+    found_written : StayFound u w
+    found_written x m = subst (λ (t : View). Member x t.found) (sym wrote.is) (f.only.found x m)
 
     only_written : OnlyTakes u w
     only_written = takes_then u v w f.only.only (subst (OnlyTakes v) (sym wrote.is) refl)
@@ -257,18 +296,18 @@ module _ (z : Sizes) (wants : Wants) (k : List ℕ) (value : ℕ) (s : Stock) (u
     failures_written : u.failures ≤ w.failures
     failures_written = let a = ap (λ (t : View). t.failures) wrote.is in let b = f.only.failures in omega arith
 
-    module _ (p' : Packing) (packs : PackingFits z packing.leaf k value p' packing.early w) where
+    module _ (p' : LeafWriter) (packs : LeafWriterFits z leaf_writer.leaf k value p' leaf_writer.early w) where
       -- few steps were made
       pub packed_soon : IsSoon u w (leaf_steps z) (leaf_looks z)
       packed_soon =
           let low = packs.low in
-          let most = packing.soon.steps in
-          let few = packing.soon.counted in
+          let most = leaf_writer.soon.steps in
+          let few = leaf_writer.soon.counted in
           let steps = packs.steps in
           let same = packs.only.failures in
           record { steps = omega (arith, most, steps, low); counted = omega (arith, few, steps, same, low) }
 
-      pub packed_few : IsSoon u w (most_steps z wants) (few_steps z wants)
+      pub packed_few : IsSoon u w (most_steps z demand) (few_steps z demand)
       packed_few =
           let soon = packed_soon in
           let most = soon.steps in
@@ -279,14 +318,15 @@ module _ (z : Sizes) (wants : Wants) (k : List ℕ) (value : ℕ) (s : Stock) (u
       pub packed_on : OnlySupplies z k value s u w
       packed_on = record {
         only = only_written;
+        found = found_written;
         later = later_written;
         failures = failures_written;
-        has = subst (λ (b : Bool). HasStock z k value w (record s { written = b })) (sym packing.blank)
-            (stock_packed z k value s packing.early w packing.leaf packing.is packing.base.has packs.only false (packed_none z w packing.leaf k value p'.place packs.packed));
+        has = subst (λ (b : Bool). HasStock z k value w (record s { written = b })) (sym leaf_writer.blank)
+            (stock_packed z k value s leaf_writer.early w leaf_writer.leaf leaf_writer.is leaf_writer.base.has packs.only false (packed_none z w leaf_writer.leaf k value p'.place packs.packed));
       }
 
       -- so the machine goes on
-      pub packed_next : p'.place ≢ 10 → Fits z wants k value (stage.Packing p') s u w
+      pub packed_next : p'.place ≢ 10 → Fits z demand k value (stage.LeafWriter p') s u w
       packed_next other = record {
         sizes = f.sizes;
         only = packed_on;
@@ -295,12 +335,12 @@ module _ (z : Sizes) (wants : Wants) (k : List ℕ) (value : ℕ) (s : Stock) (u
         stage = (
           f.stage.0,
           record {
-            early = packing.early;
-            base = packing.base;
-            soon = packing.soon;
-            leaf = packing.leaf;
-            is = packing.is;
-            blank = packing.blank;
+            early = leaf_writer.early;
+            base = leaf_writer.base;
+            soon = leaf_writer.soon;
+            leaf = leaf_writer.leaf;
+            is = leaf_writer.is;
+            blank = leaf_writer.blank;
             packs = packs;
             more = let low = packs.low in omega (arith, low, other);
           },
@@ -311,9 +351,10 @@ module _ (z : Sizes) (wants : Wants) (k : List ℕ) (value : ℕ) (s : Stock) (u
       pub packed_all : p'.place ≡ 10 → OnlySupplies z k value (record s { written = true }) u w
       packed_all is = record {
         only = only_written;
+        found = found_written;
         later = later_written;
         failures = failures_written;
-        has = stock_packed z k value s packing.early w packing.leaf packing.is packing.base.has packs.only true (subst (IsPacked z w packing.leaf k value) is packs.packed);
+        has = stock_packed z k value s leaf_writer.early w leaf_writer.leaf leaf_writer.is leaf_writer.base.has packs.only true (subst (IsPacked z w leaf_writer.leaf k value) is packs.packed);
       }
 
 -- the leaf is there, with its words
@@ -335,14 +376,14 @@ search_allowed z v0 v pool words first (Took i k) is fits = tt
 taking_allowed : (z : Sizes) (v0 v : View) (t : Taking) → taking.Fits z v0 t v → IfSome (taking.asks t) (IsAllowed z None v)
 taking_allowed z v0 v t fits = search_allowed z v0 v t.pool t.words t.first t.search fits.words fits.search
 
-pub allowed : (z : Sizes) (wants : Wants) (k : List ℕ) (value : ℕ) (m : Supplying) (s : Stock) (u v : View) → length k ≤ 64 → StageFits z wants k value m s u v
+pub allowed : (z : Sizes) (demand : Demand) (k : List ℕ) (value : ℕ) (m : Reserve) (s : Stock) (u v : View) → length k ≤ 64 → StageFits z demand k value m s u v
     → IfSome (asks k value s m) (IsAllowed z None v)
-allowed z wants k value (stage.Leaf t) s u v few fits = taking_allowed z fits.2.sought.early v t fits.2.sought.seeks
-allowed z wants k value (stage.Packing p) s u v few fits =
+allowed z demand k value (stage.Leaf t) s u v few fits = taking_allowed z fits.2.sought.early v t fits.2.sought.seeks
+allowed z demand k value (stage.LeafWriter p) s u v few fits =
     let q = fits.1 in
     rw q.is rw (lt-ltb p.place 10 q.more) (q.packs.packed.is, q.more, word_form z q.leaf k value p.place few)
-allowed z wants k value (stage.Node t) s u v few fits = taking_allowed z fits.1.seeking.sought.early v t fits.1.seeking.sought.seeks
-allowed z wants k value (stage.Ended r) s u v few fits = tt
+allowed z demand k value (stage.Node t) s u v few fits = taking_allowed z fits.1.seeking.sought.early v t fits.1.seeking.sought.seeks
+allowed z demand k value (stage.Ended r) s u v few fits = tt
 
 -- ---- a node came into the hand
 

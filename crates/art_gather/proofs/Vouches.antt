@@ -16,21 +16,21 @@ use Rattle.art_machine.specs.declared.actions.Answer.{Answer}
 use Rattle.art_machine.specs.declared.actions.Answer.TheVariants.{Begun, Word, Checked, Upgraded, Done}
 use Rattle.art_machine.specs.declared.actions.Action.{Action}
 use Rattle.art_machine.specs.declared.actions.Action.TheVariants.{Read, Check}
-use Rattle.art_gather.specs.Vouching.{CheckedSince, Fits, HasLeft, IsReadingHere, IsVouched, IsVouching, KnowsAbove, KnowsHere, VouchesAbove, after_check, written_above}
+use Rattle.art_gather.specs.Vouching.{CheckedSince, Fits, HasJustChecked, HasLeft, IsReadingHere, IsVouched, IsVouching, KnowsAbove, KnowsHere, VouchesAbove, after_check, written_above}
 use Rattle.art_gather.specs.declared.vouching.Vouched.TheVariants.{Unchanged}
 use Rattle.art_gather.specs.declared.vouching.Vouching.{Vouching}
 use Rattle.art_gather.specs.declared.vouching.Vouching.TheVariants.{CheckHere, Ended}
 use Rattle.art_find.proofs.FoundPlaces.{placed_above, placed_node, standing_grows, standing_stays}
 use Rattle.art_find.proofs.Keeping.{cell_fits, passed_grows}
 use Rattle.art_find.proofs.Runs.{one_read}
-use Rattle.art_find.specs.Desks.{above_of, node_of}
+use Rattle.art_find.specs.ReadSets.{above_of, node_of}
 use Rattle.art_find.specs.Findings.{IsUnder}
 use Rattle.art_find.specs.Kept.{IsKept}
 use Rattle.art_find.specs.Rereadings.{RereadingFits, reads_next}
 use Rattle.art_find.specs.Runs.{HasReadOnly}
-use Rattle.art_find.specs.declared.desks.Desk.{Desk}
+use Rattle.art_find.specs.declared.read_sets.ReadSet.{ReadSet}
 use Rattle.art_find.specs.declared.findings.Above.{Above}
-use Rattle.art_find.specs.declared.findings.Stand.{Stand}
+use Rattle.art_find.specs.declared.findings.Position.{Position}
 use Rattle.art_find.specs.declared.rereadings.Rereading.{Rereading}
 use Rattle.art_step.proofs.Shows.{failed_rest, passed_rest}
 use Rattle.art_step.specs.Shows.{HasStamp}
@@ -44,7 +44,7 @@ use Rattle.art_step.specs.declared.views.View.{View}
 
 -- ---- the cell above
 
-pub is_above : (both : Bool) (t : Stand) (a : Above) → written_above both t ≡ Some a → t.above ≡ Some a
+pub is_above : (both : Bool) (t : Position) (a : Above) → written_above both t ≡ Some a → t.above ≡ Some a
 is_above true t a is = is
 is_above false t a is = cc
 
@@ -92,30 +92,30 @@ passed_left z u v w x left less most row = left_on u v w left less most (ap (λ 
 
 -- ---- a rereading begins
 
-module _ (z : Sizes) (k : List ℕ) (t : Stand) (desk : Desk) (u v : View) (p : IsVouching z k t desk u v) (r : Rereading) (reads : List (Option ℕ)) where
+module _ (z : Sizes) (k : List ℕ) (t : Position) (read_set : ReadSet) (u v : View) (p : IsVouching z k t read_set u v) (r : Rereading) (reads : List (Option ℕ)) where
   abbrev Begins : Stamp → Type 0
   Begins x = IsNotHeld v.held x.cell → HasStamp z v x → IsKept z v x reads → RereadingFits z v x r reads
 
-  pub here_begins : reads ≡ node_of desk → Begins t.stamp → RereadingFits z v t.stamp r (node_of desk)
+  pub here_begins : reads ≡ node_of read_set → Begins t.stamp → RereadingFits z v t.stamp r (node_of read_set)
   here_begins is begins = subst (RereadingFits z v t.stamp r) is
       (begins (none_held v t.stamp.cell p.reads.free) p.standing.stamp (subst (IsKept z v t.stamp) (sym is) p.standing.place.kept))
 
-  pub above_begins : (a : Above) → t.above ≡ Some a → reads ≡ above_of desk → Begins a.stamp → RereadingFits z v a.stamp r (above_of desk)
+  pub above_begins : (a : Above) → t.above ≡ Some a → reads ≡ above_of read_set → Begins a.stamp → RereadingFits z v a.stamp r (above_of read_set)
   above_begins a at is begins =
-      let over = under_over z k t.above (above_of desk) v t.stamp.cell a p.standing.place.under at in
+      let over = under_over z k t.above (above_of read_set) v t.stamp.cell a p.standing.place.under at in
       subst (RereadingFits z v a.stamp r) is (begins (none_held v a.stamp.cell p.reads.free) over.stamp (subst (IsKept z v a.stamp) (sym is) over.kept))
 
 -- ---- a check that succeeded
 
-module _ (z : Sizes) (k : List ℕ) (t : Stand) (desk : Desk) (u : View) (x : Stamp) (v : View) (checked : CheckedSince z k t desk u x v) where
+module _ (z : Sizes) (k : List ℕ) (t : Position) (read_set : ReadSet) (u : View) (x : Stamp) (v : View) (checked : CheckedSince z k t read_set u x v) where
   -- then all that was noted under the stamp held in a tree
-  pub was_vouched : WasVouched z k t desk x
+  pub was_vouched : WasVouched z k t read_set x
   was_vouched =
       let passed = checked.passed in
       record { view = checked.before; standing = checked.vouching.standing; tree = passed.vouched.0; shape = passed.vouched.1; holds = passed.vouched.2 }
 
   -- and that it did stays so
-  pub checked_on : (w : View) → v.steps ≤ w.steps → CheckedSince z k t desk u x w
+  pub checked_on : (w : View) → v.steps ≤ w.steps → CheckedSince z k t read_set u x w
   checked_on w more = let done = checked.done in record {
     before = checked.before;
     vouching = checked.vouching;
@@ -124,20 +124,32 @@ module _ (z : Sizes) (k : List ℕ) (t : Stand) (desk : Desk) (u : View) (x : St
     done = omega (arith, done, more);
   }
 
-pub above_on_still : (z : Sizes) (k : List ℕ) (both : Bool) (t : Stand) (desk : Desk) (u v w : View) → v.steps ≤ w.steps → VouchesAbove z k both t desk u v → VouchesAbove z k both t desk u w
-above_on_still z k both t desk u v w more vouches a is = checked_on z k t desk u a.stamp v (vouches a is) w more
+pub above_on_still : (z : Sizes) (k : List ℕ) (both : Bool) (t : Position) (read_set : ReadSet) (u v w : View) → v.steps ≤ w.steps → VouchesAbove z k both t read_set u v → VouchesAbove z k both t read_set u w
+above_on_still z k both t read_set u v w more vouches a is = checked_on z k t read_set u a.stamp v (vouches a is) w more
 
-pub vouched_still : (z : Sizes) (k : List ℕ) (both : Bool) (t : Stand) (desk : Desk) (u v w : View) → v.steps ≤ w.steps → IsVouched z k both t desk u v → IsVouched z k both t desk u w
-vouched_still z k both t desk u v w more both_are = record {
-  here = checked_on z k t desk u t.stamp v both_are.here w more;
+pub vouched_still : (z : Sizes) (k : List ℕ) (both : Bool) (t : Position) (read_set : ReadSet) (u v w : View) → v.steps ≤ w.steps → IsVouched z k both t read_set u v → IsVouched z k both t read_set u w
+vouched_still z k both t read_set u v w more both_are = record {
+  here = checked_on z k t read_set u t.stamp v both_are.here w more;
   whole = both_are.whole;
-  above = above_on_still z k both t desk u v w more both_are.above;
+  above = above_on_still z k both t read_set u v w more both_are.above;
   all = both_are.all;
 }
 
 -- it is a step
 pub passed_later : (z : Sizes) (v w : View) (x : Stamp) → check.Unchanged z v w x None → v.steps ≤ w.steps
 passed_later z v w x passed = let step = ap (λ (y : View). y.steps) passed.is in omega (arith, step)
+
+-- what the pass knows is what it knew at the check
+pub passed_just : (z : Sizes) (u v w : View) (x : Stamp) → u.steps ≤ v.steps → check.Unchanged z v w x None → HasJustChecked u w
+passed_just z u v w x later passed =
+    let step = ap (λ (y : View). y.steps) passed.is in
+    let at = ap (λ (y : View). y.checked.step) passed.is in
+    record {
+      stamps = ap (λ (y : View). y.checked.stamps) passed.is ∙ sym (ap (λ (y : View). y.stamps) passed.is);
+      notes = ap (λ (y : View). y.checked.notes) passed.is ∙ sym (ap (λ (y : View). y.notes) passed.is);
+      after = omega (arith, later, at);
+      done = omega (arith, at, step);
+    }
 
 -- ---- a word was read
 
@@ -146,9 +158,9 @@ pub not_known : (z : Sizes) (v : View) (x : Stamp) (r : Rereading) (reads : List
 not_known z v x r reads fits more = fits.unknown (omega (arith, more, cell_fits x.cell))
 
 -- so they are not all known
-pub not_all_known : (z : Sizes) (t : Stand) (desk : Desk) (v : View) (r : Rereading) → IsReadingHere z t desk v r → ¬ KnowsHere t desk
-not_all_known z t desk v r here known =
-    let unknown = not_known z v t.stamp r (node_of desk) here.fits here.more in
+pub not_all_known : (z : Sizes) (t : Position) (read_set : ReadSet) (v : View) (r : Rereading) → IsReadingHere z t read_set v r → ¬ KnowsHere t read_set
+not_all_known z t read_set v r here known =
+    let unknown = not_known z v t.stamp r (node_of read_set) here.fits here.more in
     let one = known r.place (omega (arith, here.fits.after)) here.more in
     let no : None ≡ Some one.0 = sym unknown ∙ one.1 in cc
 
@@ -165,53 +177,53 @@ pub read_told : (z : Sizes) (d : Deed) (x : Stamp) (r : Rereading) (asked : Acti
 read_told z d x r asked answer v w more is row =
     word_told z d x r.place answer v w (subst (λ (a : Action). Answers z (telling d) a answer v w) (sym (asks_word x r asked more is)) row)
 
-module _ (z : Sizes) (k : List ℕ) (t : Stand) (desk desk' : Desk) (u v w : View) (n : ℕ) (only : HasReadOnly v w n) (p : IsVouching z k t desk u v) where
+module _ (z : Sizes) (k : List ℕ) (t : Position) (read_set read_set' : ReadSet) (u v w : View) (n : ℕ) (only : HasReadOnly v w n) (p : IsVouching z k t read_set u v) where
   later_reads : u.steps ≤ w.steps
   later_reads = let steps = only.steps in let before = p.later in omega (arith, steps, before)
 
   -- words of the cell where the key stands were read
-  pub here_after : above_of desk' ≡ above_of desk → IsKept z w t.stamp (node_of desk') → IsVouching z k t desk' u w
+  pub here_after : above_of read_set' ≡ above_of read_set → IsKept z w t.stamp (node_of read_set') → IsVouching z k t read_set' u w
   here_after same kept = record {
     reads = reads_on u v w only.rest p.reads;
     later = later_reads;
-    standing = standing_stays z k t desk desk' v w only.grows (placed_node z k v w t.above desk desk' t.stamp only.grows same kept p.standing.place) p.standing;
+    standing = standing_stays z k t read_set read_set' v w only.grows (placed_node z k v w t.above read_set read_set' t.stamp only.grows same kept p.standing.place) p.standing;
   }
 
   -- or of the cell above
-  pub above_after : (a : Above) → t.above ≡ Some a → node_of desk' ≡ node_of desk → IsKept z w a.stamp (above_of desk') → IsVouching z k t desk' u w
+  pub above_after : (a : Above) → t.above ≡ Some a → node_of read_set' ≡ node_of read_set → IsKept z w a.stamp (above_of read_set') → IsVouching z k t read_set' u w
   above_after a at same kept =
-      let over = under_over z k t.above (above_of desk) v t.stamp.cell a p.standing.place.under at in
+      let over = under_over z k t.above (above_of read_set) v t.stamp.cell a p.standing.place.under at in
       record {
         reads = reads_on u v w only.rest p.reads;
         later = later_reads;
-        standing = standing_stays z k t desk desk' v w only.grows (placed_above z k v w t.above desk desk' t.stamp only.grows a over.node at over.is same kept p.standing.place) p.standing;
+        standing = standing_stays z k t read_set read_set' v w only.grows (placed_above z k v w t.above read_set read_set' t.stamp only.grows a over.node at over.is same kept p.standing.place) p.standing;
       }
 
-module _ (z : Sizes) (k : List ℕ) (t : Stand) (desk desk' : Desk) (u v w : View) (x : Stamp) (i word : ℕ) (row : read.Outcome z v w x i word) (p : IsVouching z k t desk u v) where
-  pub here_on : above_of desk' ≡ above_of desk → IsKept z w t.stamp (node_of desk') → IsVouching z k t desk' u w
-  here_on = here_after z k t desk desk' u v w 1 (one_read z v w x i word row) p
+module _ (z : Sizes) (k : List ℕ) (t : Position) (read_set read_set' : ReadSet) (u v w : View) (x : Stamp) (i word : ℕ) (row : read.Outcome z v w x i word) (p : IsVouching z k t read_set u v) where
+  pub here_on : above_of read_set' ≡ above_of read_set → IsKept z w t.stamp (node_of read_set') → IsVouching z k t read_set' u w
+  here_on = here_after z k t read_set read_set' u v w 1 (one_read z v w x i word row) p
 
-  pub above_on : (a : Above) → t.above ≡ Some a → node_of desk' ≡ node_of desk → IsKept z w a.stamp (above_of desk') → IsVouching z k t desk' u w
-  above_on = above_after z k t desk desk' u v w 1 (one_read z v w x i word row) p
+  pub above_on : (a : Above) → t.above ≡ Some a → node_of read_set' ≡ node_of read_set → IsKept z w a.stamp (above_of read_set') → IsVouching z k t read_set' u w
+  above_on = above_after z k t read_set read_set' u v w 1 (one_read z v w x i word row) p
 
 -- ---- a check was made
 
-module _ (z : Sizes) (k : List ℕ) (both : Bool) (t : Stand) (desk : Desk) (u v w : View) (p : IsVouching z k t desk u v) where
+module _ (z : Sizes) (k : List ℕ) (both : Bool) (t : Position) (read_set : ReadSet) (u v w : View) (p : IsVouching z k t read_set u v) where
   -- it succeeded: what is known stays so, and at this step it held in a tree
   module _ (x : Stamp) (passed : check.Unchanged z v w x None) where
-    pub passed_on : IsVouching z k t desk u w
+    pub passed_on : IsVouching z k t read_set u w
     passed_on = record {
       reads = reads_on u v w (passed_rest z v w x passed) p.reads;
       later = let step = ap (λ (y : View). y.steps) passed.is in let before = p.later in omega (arith, step, before);
-      standing = standing_grows z k t desk v w (passed_grows z v w x None passed) p.standing;
+      standing = standing_grows z k t read_set v w (passed_grows z v w x None passed) p.standing;
     }
 
-    pub checked_now : CheckedSince z k t desk u x w
+    pub checked_now : CheckedSince z k t read_set u x w
     checked_now = record { before = v; vouching = p; after = w; passed = passed; done = omega arith }
 
   module _ (left : ℕ) (some : 0 < left) (has : HasLeft u v left 532) where
-    check_told : (d : Deed) (x : Stamp) (answer : Answer) (next : Vouching) → (check.Unchanged z v w x None → Fits z k both t next desk u w) → Answers z (telling d) (Check x) answer v w
-        → Fits z k both t (after_check answer next) desk u w
+    check_told : (d : Deed) (x : Stamp) (answer : Answer) (next : Vouching) → (check.Unchanged z v w x None → Fits z k both t next read_set u w) → Answers z (telling d) (Check x) answer v w
+        → Fits z k both t (after_check answer next) read_set u w
     check_told d x (Begun r) next on row = absurd row
     check_told d x (Word word) next on row = absurd row
     check_told d x (Upgraded r) next on row = absurd row
@@ -223,8 +235,8 @@ module _ (z : Sizes) (k : List ℕ) (both : Bool) (t : Stand) (desk : Desk) (u v
       steps = let step = ap (λ (y : View). y.steps) row.3.is in let few = has.steps in omega (arith, step, few, some);
     }
 
-    pub above_checked : (d : Deed) (a : Above) (asked : Action) (answer : Answer) → 1 < left → written_above both t ≡ Some a → KnowsAbove both t desk → KnowsHere t desk
-        → Check a.stamp ≡ asked → Answers z (telling d) asked answer v w → Fits z k both t (after_check answer CheckHere) desk u w
+    pub above_checked : (d : Deed) (a : Above) (asked : Action) (answer : Answer) → 1 < left → written_above both t ≡ Some a → KnowsAbove both t read_set → KnowsHere t read_set
+        → Check a.stamp ≡ asked → Answers z (telling d) asked answer v w → Fits z k both t (after_check answer CheckHere) read_set u w
     above_checked d a asked answer more is above here at row =
         check_told d a.stamp answer CheckHere
         (λ passed. let still = passed_left z u v w a.stamp left 1 532 passed more has in
@@ -233,15 +245,15 @@ module _ (z : Sizes) (k : List ℕ) (both : Bool) (t : Stand) (desk : Desk) (u v
             passed_on a.stamp passed,
             above,
             here,
-            (λ b other. subst (λ (y : Above). CheckedSince z k t desk u y.stamp w) (same_Some {A = Above} a b (sym is ∙ other)) (checked_now a.stamp passed)),
+            (λ b other. subst (λ (y : Above). CheckedSince z k t read_set u y.stamp w) (same_Some {A = Above} a b (sym is ∙ other)) (checked_now a.stamp passed)),
           );
           failures = still.failures;
           steps = still.steps;
         })
         (subst (λ (q : Action). Answers z (telling d) q answer v w) (sym at) row)
 
-    pub here_checked : (d : Deed) (asked : Action) (answer : Answer) → KnowsAbove both t desk → KnowsHere t desk → VouchesAbove z k both t desk u v → Check t.stamp ≡ asked
-        → Answers z (telling d) asked answer v w → Fits z k both t (after_check answer (Ended Unchanged)) desk u w
+    pub here_checked : (d : Deed) (asked : Action) (answer : Answer) → KnowsAbove both t read_set → KnowsHere t read_set → VouchesAbove z k both t read_set u v → Check t.stamp ≡ asked
+        → Answers z (telling d) asked answer v w → Fits z k both t (after_check answer (Ended Unchanged)) read_set u w
     here_checked d asked answer above here vouches at row =
         check_told d t.stamp answer (Ended Unchanged)
         (λ passed. let still = passed_left z u v w t.stamp left 0 532 passed some has in
@@ -251,9 +263,10 @@ module _ (z : Sizes) (k : List ℕ) (both : Bool) (t : Stand) (desk : Desk) (u v
             record {
               here = checked_now t.stamp passed;
               whole = here;
-              above = above_on_still z k both t desk u v w (passed_later z v w t.stamp passed) vouches;
+              above = above_on_still z k both t read_set u v w (passed_later z v w t.stamp passed) vouches;
               all = above;
             },
+            passed_just z u v w t.stamp p.later passed,
           );
           failures = still.failures;
           steps = still.steps;

@@ -15,18 +15,18 @@ use Rattle.art_find.specs.Descents.{IsReading}
 use Rattle.art_machine.specs.declared.actions.Answer.{Answer}
 use Rattle.art_machine.specs.declared.actions.Action.{Action}
 use Rattle.art_machine.specs.declared.actions.Action.TheVariants.{Begin, Check}
-use Rattle.art_gather.specs.Vouching.{IsReadingAbove, IsVouched, IsVouching, KnowsAbove, KnowsHere, VouchesAbove, above_checks, above_reads}
+use Rattle.art_gather.specs.Vouching.{HasJustChecked, IsReadingAbove, IsVouched, IsVouching, KnowsAbove, KnowsHere, VouchesAbove, above_checks, above_reads}
 use Rattle.art_machine.specs.Acting.{passed}
 use Rattle.art_gather.specs.declared.lowering.Lowered.{Lowered}
 use Rattle.art_gather.specs.declared.lowering.Lowered.TheVariants.{Unchanged, Changed}
 use Rattle.art_gather.specs.declared.lowering.Lowering.{Lowering}
 use Rattle.art_gather.specs.declared.lowering.Lowering.TheVariants.{Beginning, Named, Above, Lower, CheckAbove, CheckHere, CheckLower, Ended}
-use Rattle.art_find.specs.Desks.{node_of}
+use Rattle.art_find.specs.ReadSets.{node_of}
 use Rattle.art_find.specs.Kept.{HasPath, IsKept}
 use Rattle.art_find.specs.Rereadings.{AreKnown, RereadingFits, reads_next}
-use Rattle.art_find.specs.declared.desks.Desk.{Desk}
+use Rattle.art_find.specs.declared.read_sets.ReadSet.{ReadSet}
 use Rattle.art_find.specs.declared.findings.Above.{Above as CellAbove}
-use Rattle.art_find.specs.declared.findings.Stand.{Stand}
+use Rattle.art_find.specs.declared.findings.Position.{Position}
 use Rattle.art_find.specs.declared.rereadings.Rereading.{Rereading}
 use Rattle.art_plan.specs.Seen.{IsReadWhole}
 use Rattle.art_step.specs.Shows.{HasStamp}
@@ -40,7 +40,7 @@ use Rattle.art_step.specs.declared.views.View.{View}
 -- ---- what it asks
 
 -- the next step
-abbrev pub asks : Stand → Lowering → Option Action
+abbrev pub asks : Position → Lowering → Option Action
 asks t (Beginning n) = Some (Begin (cell.Node n))
 asks t (Named x) = Some (Check t.stamp)
 asks t (Above x r) = option_and_then (above_reads r) t.above
@@ -83,18 +83,18 @@ pub record HasLower (body : Body) (byte : ℕ) (n : Node) : Type 0 where
   pub there : child_of body.layout (word_of body) byte ≡ Some (child_word (node n))
 
 -- the key stands in a node; whatever body has the words that were read of it is a node's, and has the lower node at one byte
-pub record IsParent (t : Stand) (desk : Desk) (n : Node) : Type 0 where
+pub record IsParent (t : Position) (read_set : ReadSet) (n : Node) : Type 0 where
   pub here : Node
   pub is : t.stamp.cell ≡ cell.Node here
   pub byte : ℕ
-  pub meaning : (body : Body) → HasWords here (node_of desk) body → IsBody body.layout (word_of body)
-  pub has : (body : Body) → HasWords here (node_of desk) body → HasLower body byte n
+  pub meaning : (body : Body) → HasWords here (node_of read_set) body → IsBody body.layout (word_of body)
+  pub has : (body : Body) → HasWords here (node_of read_set) body → HasLower body byte n
 
 -- the path to the lower node was noted under the stamp, by whatever byte it is the child: the path by which the cell above has the node
 -- where the key stands, then the prefix of that node, as it was read, then the byte
-abbrev pub IsLed : List ℕ → Stand → Desk → Node → View → Stamp → Type 0
-IsLed k t desk n v x = (here : Node) (a : CellAbove) (body : Body) (byte : ℕ) → t.stamp.cell ≡ cell.Node here → t.above ≡ Some a →
-    HasWords here (node_of desk) body → HasLower body byte n →
+abbrev pub IsLed : List ℕ → Position → ReadSet → Node → View → Stamp → Type 0
+IsLed k t read_set n v x = (here : Node) (a : CellAbove) (body : Body) (byte : ℕ) → t.stamp.cell ≡ cell.Node here → t.above ≡ Some a →
+    HasWords here (node_of read_set) body → HasLower body byte n →
     Member (note_of x (Starts (take a.depth k ++ prefix_of (word_of body) ++ byte ∷ []))) v.notes
 
 -- the lower node is stamped, and these words were read of it
@@ -104,20 +104,20 @@ pub record IsLower (z : Sizes) (n : Node) (x : Stamp) (lower : List (Option ℕ)
   pub kept : IsKept z v x lower
 
 -- so it is, it is a child of the node where the key stands, and another node, and its path was noted too
-pub record IsBelow (z : Sizes) (k : List ℕ) (t : Stand) (desk : Desk) (n : Node) (x : Stamp) (lower : List (Option ℕ)) (v : View)
+pub record IsBelow (z : Sizes) (k : List ℕ) (t : Position) (read_set : ReadSet) (n : Node) (x : Stamp) (lower : List (Option ℕ)) (v : View)
     : Type 0 where
   pub on : IsLower z n x lower v
-  pub parent : IsParent t desk n
+  pub parent : IsParent t read_set n
   pub other : t.stamp.cell ≢ cell.Node n
   pub path : HasPath v x
-  pub led : IsLed k t desk n v x
+  pub led : IsLed k t read_set n v x
 
 -- if the cell above were the lower node, this path would be noted under its stamp too
-abbrev pub WouldLead : List ℕ → Stand → Desk → Node → View → Type 0
-WouldLead k t desk n v = (a : CellAbove) → t.above ≡ Some a → a.stamp.cell ≡ cell.Node n → IsLed k t desk n v a.stamp
+abbrev pub WouldLead : List ℕ → Position → ReadSet → Node → View → Type 0
+WouldLead k t read_set n v = (a : CellAbove) → t.above ≡ Some a → a.stamp.cell ≡ cell.Node n → IsLed k t read_set n v a.stamp
 
 -- but it is not that node
-abbrev pub IsThird : Stand → Node → Type 0
+abbrev pub IsThird : Position → Node → Type 0
 IsThird t n = (a : CellAbove) → t.above ≡ Some a → a.stamp.cell ≢ cell.Node n
 
 -- all words of the lower node are known
@@ -127,30 +127,30 @@ KnowsLower x lower = AreKnown lower 1 (size_of x.cell)
 -- ---- what it knows, of a pass that had the view u when it began
 
 -- the pass only read, and the key stands where it stood, in a node of which all words are known; one of them names the lower node
-pub record IsLowering (z : Sizes) (k : List ℕ) (t : Stand) (n : Node) (desk : Desk) (u v : View) : Type 0 where
-  pub vouching : IsVouching z k t desk u v
-  pub whole : KnowsHere t desk
+pub record IsLowering (z : Sizes) (k : List ℕ) (t : Position) (n : Node) (read_set : ReadSet) (u v : View) : Type 0 where
+  pub vouching : IsVouching z k t read_set u v
+  pub whole : KnowsHere t read_set
   pub here : Node
   pub is : t.stamp.cell ≡ cell.Node here
-  pub named : NamesChild t desk (node n)
+  pub named : NamesChild t read_set (node n)
 
 -- since the view u, and not after v, a check of the lower node succeeded, when its path was noted and these words had been read of it
-pub record CheckedBelow (z : Sizes) (k : List ℕ) (t : Stand) (desk : Desk) (n : Node) (u : View) (x : Stamp) (lower : List (Option ℕ))
+pub record CheckedBelow (z : Sizes) (k : List ℕ) (t : Position) (read_set : ReadSet) (n : Node) (u : View) (x : Stamp) (lower : List (Option ℕ))
     (v : View) : Type 0 where
   pub before : View
-  pub lowering : IsLowering z k t n desk u before
-  pub below : IsBelow z k t desk n x lower before
+  pub lowering : IsLowering z k t n read_set u before
+  pub below : IsBelow z k t read_set n x lower before
   pub after : View
   pub passed : check.Unchanged z before after x None
   pub done : after.steps ≤ v.steps
 
 -- the lower node is stamped, with its path and all its words, and is a third cell; a check of it succeeded after that
-pub record IsLowered (z : Sizes) (k : List ℕ) (t : Stand) (desk : Desk) (n : Node) (x : Stamp) (lower : List (Option ℕ)) (u v : View)
+pub record IsLowered (z : Sizes) (k : List ℕ) (t : Position) (read_set : ReadSet) (n : Node) (x : Stamp) (lower : List (Option ℕ)) (u v : View)
     : Type 0 where
-  pub below : IsBelow z k t desk n x lower v
+  pub below : IsBelow z k t read_set n x lower v
   pub whole : KnowsLower x lower
   pub third : IsThird t n
-  pub was : CheckedBelow z k t desk n u x lower v
+  pub was : CheckedBelow z k t read_set n u x lower v
 
 -- words of the lower node are read
 pub record IsReadingLower (z : Sizes) (x : Stamp) (lower : List (Option ℕ)) (v : View) (r : Rereading) : Type 0 where
@@ -158,42 +158,42 @@ pub record IsReadingLower (z : Sizes) (x : Stamp) (lower : List (Option ℕ)) (v
   pub more : r.place < size_of x.cell
 
 -- at each stage
-abbrev pub StageFits : Sizes → List ℕ → Stand → Node → Lowering → Desk → List (Option ℕ) → View → View → Type 0
-StageFits z k t n (Beginning m) desk lower u v = IsLowering z k t n desk u v × (m ≡ n)
-StageFits z k t n (Named x) desk lower u v = IsLowering z k t n desk u v × IsLower z n x lower v
-StageFits z k t n (Above x r) desk lower u v = IsLowering z k t n desk u v × IsBelow z k t desk n x lower v ×
-    WouldLead k t desk n v × IsReadingAbove z true t desk v r
-StageFits z k t n (Lower x r) desk lower u v = IsLowering z k t n desk u v × IsBelow z k t desk n x lower v ×
-    WouldLead k t desk n v × KnowsAbove true t desk × IsReadingLower z x lower v r
-StageFits z k t n (CheckAbove x) desk lower u v = IsLowering z k t n desk u v × IsBelow z k t desk n x lower v ×
-    WouldLead k t desk n v × KnowsAbove true t desk × KnowsLower x lower
-StageFits z k t n (CheckHere x) desk lower u v = IsLowering z k t n desk u v × IsBelow z k t desk n x lower v ×
-    IsThird t n × KnowsAbove true t desk × KnowsLower x lower × VouchesAbove z k true t desk u v
-StageFits z k t n (CheckLower x) desk lower u v = IsLowering z k t n desk u v × IsBelow z k t desk n x lower v ×
-    IsThird t n × KnowsLower x lower × IsVouched z k true t desk u v
-StageFits z k t n (Ended (Unchanged x)) desk lower u v =
-    IsLowering z k t n desk u v × IsVouched z k true t desk u v × IsLowered z k t desk n x lower u v
-StageFits z k t n (Ended Changed) desk lower u v = IsReading u v
+abbrev pub StageFits : Sizes → List ℕ → Position → Node → Lowering → ReadSet → List (Option ℕ) → View → View → Type 0
+StageFits z k t n (Beginning m) read_set lower u v = IsLowering z k t n read_set u v × (m ≡ n)
+StageFits z k t n (Named x) read_set lower u v = IsLowering z k t n read_set u v × IsLower z n x lower v
+StageFits z k t n (Above x r) read_set lower u v = IsLowering z k t n read_set u v × IsBelow z k t read_set n x lower v ×
+    WouldLead k t read_set n v × IsReadingAbove z true t read_set v r
+StageFits z k t n (Lower x r) read_set lower u v = IsLowering z k t n read_set u v × IsBelow z k t read_set n x lower v ×
+    WouldLead k t read_set n v × KnowsAbove true t read_set × IsReadingLower z x lower v r
+StageFits z k t n (CheckAbove x) read_set lower u v = IsLowering z k t n read_set u v × IsBelow z k t read_set n x lower v ×
+    WouldLead k t read_set n v × KnowsAbove true t read_set × KnowsLower x lower
+StageFits z k t n (CheckHere x) read_set lower u v = IsLowering z k t n read_set u v × IsBelow z k t read_set n x lower v ×
+    IsThird t n × KnowsAbove true t read_set × KnowsLower x lower × VouchesAbove z k true t read_set u v
+StageFits z k t n (CheckLower x) read_set lower u v = IsLowering z k t n read_set u v × IsBelow z k t read_set n x lower v ×
+    IsThird t n × KnowsLower x lower × IsVouched z k true t read_set u v
+StageFits z k t n (Ended (Unchanged x)) read_set lower u v =
+    IsLowering z k t n read_set u v × IsVouched z k true t read_set u v × IsLowered z k t read_set n x lower u v × HasJustChecked u v
+StageFits z k t n (Ended Changed) read_set lower u v = IsReading u v
 
 -- of a lowering to the node n, of which these words were read
-pub record Fits (z : Sizes) (k : List ℕ) (t : Stand) (n : Node) (m : Lowering) (desk : Desk) (lower : List (Option ℕ))
+pub record Fits (z : Sizes) (k : List ℕ) (t : Position) (n : Node) (m : Lowering) (read_set : ReadSet) (lower : List (Option ℕ))
     (u v : View) : Type 0 where
-  pub stage : StageFits z k t n m desk lower u v
+  pub stage : StageFits z k t n m read_set lower u v
   pub failures : v.failures ≡ failures_of m u.failures
   pub steps : v.steps + steps_left m ≤ u.steps + 535
 
 -- ---- what its end gives a plan
 
 -- the path to the node where the key stands, its prefix, a byte and the prefix of the lower node are fewer bytes than a key may have
-abbrev pub JoinsShort : Stand → Desk → Node → List (Option ℕ) → Type 0
-JoinsShort t desk n lower = (here : Node) (a : CellAbove) (upper body : Body) → t.stamp.cell ≡ cell.Node here → t.above ≡ Some a →
-    HasWords here (node_of desk) upper → HasWords n lower body →
+abbrev pub JoinsShort : Position → ReadSet → Node → List (Option ℕ) → Type 0
+JoinsShort t read_set n lower = (here : Node) (a : CellAbove) (upper body : Body) → t.stamp.cell ≡ cell.Node here → t.above ≡ Some a →
+    HasWords here (node_of read_set) upper → HasWords n lower body →
     a.depth + length (prefix_of (word_of upper)) + 1 + length (prefix_of (word_of body)) < 64
 
 -- the lower node was read whole, whatever body has these words is a node's, its prefix may be joined to that of the node above it, and
 -- it is not the cell above that one
-pub record IsReadBelow (z : Sizes) (t : Stand) (desk : Desk) (n : Node) (x : Stamp) (lower : List (Option ℕ)) (v : View) : Type 0 where
+pub record IsReadBelow (z : Sizes) (t : Position) (read_set : ReadSet) (n : Node) (x : Stamp) (lower : List (Option ℕ)) (v : View) : Type 0 where
   pub whole : (body : Body) → HasWords n lower body → IsReadWhole z v x n body
   pub meaning : (body : Body) → HasWords n lower body → IsBody body.layout (word_of body)
-  pub short : JoinsShort t desk n lower
+  pub short : JoinsShort t read_set n lower
   pub third : IsThird t n

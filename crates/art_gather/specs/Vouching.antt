@@ -11,12 +11,12 @@ use Rattle.art_gather.specs.declared.vouching.Vouched.{Vouched}
 use Rattle.art_gather.specs.declared.vouching.Vouched.TheVariants.{Unchanged, Changed}
 use Rattle.art_gather.specs.declared.vouching.Vouching.{Vouching}
 use Rattle.art_gather.specs.declared.vouching.Vouching.TheVariants.{Above, Here, CheckAbove, CheckHere, Ended}
-use Rattle.art_find.specs.Desks.{above_of, node_of}
+use Rattle.art_find.specs.ReadSets.{above_of, node_of}
 use Rattle.art_find.specs.Findings.{IsStanding}
 use Rattle.art_find.specs.Rereadings.{AreKnown, RereadingFits, reads_next}
-use Rattle.art_find.specs.declared.desks.Desk.{Desk}
+use Rattle.art_find.specs.declared.read_sets.ReadSet.{ReadSet}
 use Rattle.art_find.specs.declared.findings.Above.{Above as CellAbove}
-use Rattle.art_find.specs.declared.findings.Stand.{Stand}
+use Rattle.art_find.specs.declared.findings.Position.{Position}
 use Rattle.art_find.specs.declared.rereadings.Rereading.{Rereading}
 use Rattle.art_step.specs.Steps.Check as check
 use Rattle.art_step.specs.Views.{size_of}
@@ -33,7 +33,7 @@ abbrev pub above_checks : CellAbove → Action
 above_checks a = Check a.stamp
 
 -- the next step
-abbrev pub asks : Stand → Vouching → Option Action
+abbrev pub asks : Position → Vouching → Option Action
 asks t (Above r) = option_and_then (above_reads r) t.above
 asks t (Here r) = reads_next t.stamp r
 asks t CheckAbove = option_map above_checks t.above
@@ -86,66 +86,74 @@ after_check answer next = if passed answer then next else Ended Changed
 -- ---- what it knows, of a pass that had the view u when it began
 
 -- the cell above, where both cells are vouched for
-abbrev pub written_above : Bool → Stand → Option CellAbove
+abbrev pub written_above : Bool → Position → Option CellAbove
 written_above both t = if both then t.above else None
 
 -- all words of the cell above are known, where both are
-abbrev pub KnowsAbove : Bool → Stand → Desk → Type 0
-KnowsAbove both t desk = (a : CellAbove) → written_above both t ≡ Some a → AreKnown (above_of desk) 1 (size_of a.stamp.cell)
+abbrev pub KnowsAbove : Bool → Position → ReadSet → Type 0
+KnowsAbove both t read_set = (a : CellAbove) → written_above both t ≡ Some a → AreKnown (above_of read_set) 1 (size_of a.stamp.cell)
 
 -- all words of the cell where the key stands are known
-abbrev pub KnowsHere : Stand → Desk → Type 0
-KnowsHere t desk = AreKnown (node_of desk) 1 (size_of t.stamp.cell)
+abbrev pub KnowsHere : Position → ReadSet → Type 0
+KnowsHere t read_set = AreKnown (node_of read_set) 1 (size_of t.stamp.cell)
 
 -- the pass only read, and the key stands where it stood
-pub record IsVouching (z : Sizes) (k : List ℕ) (t : Stand) (desk : Desk) (u v : View) : Type 0 where
+pub record IsVouching (z : Sizes) (k : List ℕ) (t : Position) (read_set : ReadSet) (u v : View) : Type 0 where
   pub reads : IsReading u v
   pub later : u.steps ≤ v.steps
-  pub standing : IsStanding z k t desk v
+  pub standing : IsStanding z k t read_set v
 
--- since the view u, and not after v, a check of the stamp succeeded, when the key stood there and the desk was as it is now
-pub record CheckedSince (z : Sizes) (k : List ℕ) (t : Stand) (desk : Desk) (u : View) (x : Stamp) (v : View) : Type 0 where
+-- since the view u, and not after v, a check of the stamp succeeded, when the key stood there and the read set was as it is now
+pub record CheckedSince (z : Sizes) (k : List ℕ) (t : Position) (read_set : ReadSet) (u : View) (x : Stamp) (v : View) : Type 0 where
   pub before : View
-  pub vouching : IsVouching z k t desk u before
+  pub vouching : IsVouching z k t read_set u before
   pub after : View
   pub passed : check.Unchanged z before after x None
   pub done : after.steps ≤ v.steps
 
 -- a check of the cell above succeeded
-abbrev pub VouchesAbove : Sizes → List ℕ → Bool → Stand → Desk → View → View → Type 0
-VouchesAbove z k both t desk u v = (a : CellAbove) → written_above both t ≡ Some a → CheckedSince z k t desk u a.stamp v
+abbrev pub VouchesAbove : Sizes → List ℕ → Bool → Position → ReadSet → View → View → Type 0
+VouchesAbove z k both t read_set u v = (a : CellAbove) → written_above both t ≡ Some a → CheckedSince z k t read_set u a.stamp v
 
 -- all words of the cell, and of the one above where both are vouched for, were known when a check of it succeeded
-pub record IsVouched (z : Sizes) (k : List ℕ) (both : Bool) (t : Stand) (desk : Desk) (u v : View) : Type 0 where
-  pub here : CheckedSince z k t desk u t.stamp v
-  pub whole : KnowsHere t desk
-  pub above : VouchesAbove z k both t desk u v
-  pub all : KnowsAbove both t desk
+pub record IsVouched (z : Sizes) (k : List ℕ) (both : Bool) (t : Position) (read_set : ReadSet) (u v : View) : Type 0 where
+  pub here : CheckedSince z k t read_set u t.stamp v
+  pub whole : KnowsHere t read_set
+  pub above : VouchesAbove z k both t read_set u v
+  pub all : KnowsAbove both t read_set
+
+-- the last check that succeeded came after the view u, and what the pass knew then it knows now
+pub record HasJustChecked (u v : View) : Type 0 where
+  pub stamps : v.checked.stamps ≡ v.stamps
+  pub notes : v.checked.notes ≡ v.notes
+  pub after : u.steps < v.checked.step
+  pub done : v.checked.step ≤ v.steps
 
 -- words of the cell above are read
-pub record IsReadingAbove (z : Sizes) (both : Bool) (t : Stand) (desk : Desk) (v : View) (r : Rereading) : Type 0 where
+pub record IsReadingAbove (z : Sizes) (both : Bool) (t : Position) (read_set : ReadSet) (v : View) (r : Rereading) : Type 0 where
   pub above : CellAbove
   pub is : written_above both t ≡ Some above
-  pub fits : RereadingFits z v above.stamp r (above_of desk)
+  pub fits : RereadingFits z v above.stamp r (above_of read_set)
   pub more : r.place < size_of above.stamp.cell
 
 -- or of the cell where the key stands
-pub record IsReadingHere (z : Sizes) (t : Stand) (desk : Desk) (v : View) (r : Rereading) : Type 0 where
-  pub fits : RereadingFits z v t.stamp r (node_of desk)
+pub record IsReadingHere (z : Sizes) (t : Position) (read_set : ReadSet) (v : View) (r : Rereading) : Type 0 where
+  pub fits : RereadingFits z v t.stamp r (node_of read_set)
   pub more : r.place < size_of t.stamp.cell
 
 -- at each stage
-abbrev pub StageFits : Sizes → List ℕ → Bool → Stand → Vouching → Desk → View → View → Type 0
-StageFits z k both t (Above r) desk u v = IsVouching z k t desk u v × IsReadingAbove z both t desk v r
-StageFits z k both t (Here r) desk u v = IsVouching z k t desk u v × KnowsAbove both t desk × IsReadingHere z t desk v r
-StageFits z k both t CheckAbove desk u v =
-    IsVouching z k t desk u v × KnowsAbove both t desk × KnowsHere t desk × ((a : CellAbove) × (written_above both t ≡ Some a))
-StageFits z k both t CheckHere desk u v =
-    IsVouching z k t desk u v × KnowsAbove both t desk × KnowsHere t desk × VouchesAbove z k both t desk u v
-StageFits z k both t (Ended Unchanged) desk u v = IsVouching z k t desk u v × IsVouched z k both t desk u v
-StageFits z k both t (Ended Changed) desk u v = IsReading u v
+abbrev pub StageFits : Sizes → List ℕ → Bool → Position → Vouching → ReadSet → View → View → Type 0
+StageFits z k both t (Above r) read_set u v = IsVouching z k t read_set u v × IsReadingAbove z both t read_set v r
+StageFits z k both t (Here r) read_set u v = IsVouching z k t read_set u v × KnowsAbove both t read_set × IsReadingHere z t read_set v r
+StageFits z k both t CheckAbove read_set u v =
+    IsVouching z k t read_set u v × KnowsAbove both t read_set × KnowsHere t read_set × ((a : CellAbove) × (written_above both t ≡ Some a))
+StageFits z k both t CheckHere read_set u v =
+    IsVouching z k t read_set u v × KnowsAbove both t read_set × KnowsHere t read_set × VouchesAbove z k both t read_set u v
+StageFits z k both t (Ended Unchanged) read_set u v =
+    IsVouching z k t read_set u v × IsVouched z k both t read_set u v × HasJustChecked u v
+StageFits z k both t (Ended Changed) read_set u v = IsReading u v
 
-pub record Fits (z : Sizes) (k : List ℕ) (both : Bool) (t : Stand) (m : Vouching) (desk : Desk) (u v : View) : Type 0 where
-  pub stage : StageFits z k both t m desk u v
+pub record Fits (z : Sizes) (k : List ℕ) (both : Bool) (t : Position) (m : Vouching) (read_set : ReadSet) (u v : View) : Type 0 where
+  pub stage : StageFits z k both t m read_set u v
   pub failures : v.failures ≡ failures_of m u.failures
   pub steps : v.steps + steps_left m ≤ u.steps + 532

@@ -9,9 +9,9 @@
 //! Neither is held by a lock. Numbers come from pools that all passes share, and a pool may be empty. The cells may be changed
 //! by others at any step, up to the upgrades. So all of this is gathered first, while nothing is held, and can be given up.
 //!
-//! # Supplying
+//! # Reserve
 //!
-//! `Supplying` brings into the hand what the change wants (`Wants`) and the stock has not:
+//! `Reserve` brings into the hand what the change wants (`Demand`) and the stock has not:
 //!
 //! ```text
 //! the leaf's number ──► its ten words ──► the node's number ──► Ready
@@ -49,15 +49,15 @@
 //! Each step may be made, and each answer keeps what the machine knows. While numbers come, nothing of the view changes but
 //! steps, failures, what was found, and the hand, which has just the numbers of the stock. It is `Full` only where a number of
 //! that pool was wanted and each free word was found without a bit, or lost its bit to another pass. A vouching only reads;
-//! where it ends `Unchanged`, all words are known and each cell was vouched for; where `Changed`, one check failed. A supplying
+//! where it ends `Unchanged`, all words are known and each cell was vouched for; where `Changed`, one check failed. A reserve
 //! makes at most two steps for each free word of the two pools, and ten; a vouching makes at most 532.
 #![tactic(auto)]
 
 mod lowering;
-mod supplying;
+mod reserve;
 mod vouching;
 
 pub use art_plan;
 pub use lowering::{Lowered, Lowering};
-pub use supplying::{Supplied, Supplying, Wants};
+pub use reserve::{Demand, Reserve, Reserved};
 pub use vouching::{Vouched, Vouching, read_cells};

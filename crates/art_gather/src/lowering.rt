@@ -12,7 +12,7 @@
 //!               └─ 'u' C "lu" ..        takes the place of N, as "romulu" ..
 //! ```
 //!
-//! The descent has stamped P and N, and read all words of N (`Stand` and `Desk` of `art_find`). It never came to C, since the
+//! The descent has stamped P and N, and read all words of N (`Position` and `ReadSet` of `art_find`). It never came to C, since the
 //! key does not lead there. C is known by one word of N alone, and words that were read under a stamp may be torn from one another
 //! until a check of that stamp (DaMoN 2016): before it they need not be those of a node, and C need not be a child of N. That a
 //! word which was read at a place of a child names C is all that is known so far (`NamesChild` of `art_plan`, whose `other_child`
@@ -63,12 +63,12 @@ ghost use Rattle.art_gather.specs.Vouching.{HasLeft, KnowsAbove};
 ghost use Rattle.art_gather.specs.Lowering.{Fits, IsBelow, IsLowering, IsReadBelow, WouldLead, after_check, asks, ended_at, steps_left};
 ghost use Rattle.art_gather.specs.declared.lowering.Lowered.TheVariants.{Unchanged as unchanged};
 ghost use Rattle.art_gather.specs.declared.lowering.Lowering.TheVariants.{Beginning as beginning, Named as named, Above as above_read, Lower as lower_read};
-ghost use Rattle.art_find.specs.Desks.{above_of, node_of};
+ghost use Rattle.art_find.specs.ReadSets.{above_of, node_of};
 ghost use Rattle.art_find.specs.Findings.{IsStanding};
 ghost use Rattle.art_find.specs.Rereadings.{RereadingFits};
-ghost use Rattle.art_find.specs.declared.desks.Desk.{Desk as DeskOf};
+ghost use Rattle.art_find.specs.declared.read_sets.ReadSet.{ReadSet as ReadSetOf};
 ghost use Rattle.art_find.specs.declared.findings.Above.{Above as AboveOf};
-ghost use Rattle.art_find.specs.declared.findings.Stand.{Stand as StandOf};
+ghost use Rattle.art_find.specs.declared.findings.Position.{Position as PositionOf};
 ghost use Rattle.art_plan.specs.declared.remove.leaves.OldLeaf.{OldLeaf as OldLeafOf};
 ghost use Rattle.art_step.specs.declared.deeds.Deed.{Deed};
 ghost use Rattle.art_step.specs.declared.views.Sizes.{Sizes};
@@ -76,7 +76,7 @@ ghost use Rattle.art_step.specs.declared.views.Stamp.{Stamp as StampOf};
 ghost use Rattle.art_step.specs.declared.views.View.{View};
 
 use art_cell::{Cell, Node, Reads};
-use art_find::{Above, Desk, Rereading, Stand};
+use art_find::{Above, Position, ReadSet, Rereading};
 use art_machine::{Action, Answer};
 use art_step::Stamp;
 
@@ -97,9 +97,9 @@ pub enum Lowering {
     /// It is stamped, and the node that names it is to be checked.
     Named(Stamp),
     /// The words of the cell above that are missing are read.
-    Above(Stamp, Rereading),
+    Above { lower: Stamp, reading: Rereading },
     /// And those of the lower node.
-    Lower(Stamp, Rereading),
+    Lower { lower: Stamp, reading: Rereading },
     /// The cell above is to be checked.
     CheckAbove(Stamp),
     /// The node where the key stands is.
@@ -117,40 +117,50 @@ impl Lowering {
     pub fn new(node: Node) -> Lowering
         ensures going { ended_at result ≡ None }
         ensures few { steps_left result ≤ 535 }
-        ensures fits { (z : Sizes) (k : List ℕ) (t : StandOf) (desk : DeskOf) (lower : List (Option ℕ)) (u : View) →
-            IsLowering z k t node desk u u → Fits z k t node result desk lower u u }
+        ensures fits { (z : Sizes) (k : List ℕ) (t : PositionOf) (read_set : ReadSetOf) (lower : List (Option ℕ)) (u : View) →
+            IsLowering z k t node read_set u u → Fits z k t node result read_set lower u u }
     {
         Lowering::Beginning(node)
     }
 
     /// The next step, or none where it has ended.
-    pub fn next(&self, stand: &Stand) -> Option<Action>
-        ensures asks { result ≡ asks stand.now self.now }
-        ensures allowed { (z : Sizes) (k : List ℕ) (n : NodeOf) (desk : DeskOf) (lower : List (Option ℕ)) (u v : View) →
-            Fits z k stand.now n self.now desk lower u v → IfSome result (MayLook z (λ s. ⊤) v) }
-        ensures going { (z : Sizes) (k : List ℕ) (n : NodeOf) (desk : DeskOf) (lower : List (Option ℕ)) (u v : View) →
-            Fits z k stand.now n self.now desk lower u v → ended_at self.now ≡ None → (a : ActionOf) × (result ≡ Some a) }
+    pub fn next(&self, position: &Position) -> Option<Action>
+        ensures asks { result ≡ asks position.now self.now }
+        ensures allowed { (z : Sizes) (k : List ℕ) (n : NodeOf) (read_set : ReadSetOf) (lower : List (Option ℕ)) (u v : View) →
+            Fits z k position.now n self.now read_set lower u v → IfSome result (MayLook z (λ s. ⊤) v) }
+        ensures going { (z : Sizes) (k : List ℕ) (n : NodeOf) (read_set : ReadSetOf) (lower : List (Option ℕ)) (u v : View) →
+            Fits z k position.now n self.now read_set lower u v → ended_at self.now ≡ None → (a : ActionOf) × (result ≡ Some a) }
     {
-        self.asked(stand)
+        self.asked(position)
     }
 
     /// The step that it asked for was made, with this answer. The words of the lower node come to these.
-    pub fn told(&mut self, stand: &Stand, desk: &mut Desk, lower: &mut Reads, answer: Answer)
+    pub fn told(
+        &mut self,
+        position: &Position,
+        read_set: &mut ReadSet,
+        lower: &mut Reads,
+        answer: Answer,
+    )
         requires { (z : Sizes) × (k : List ℕ) × (n : NodeOf) × (u : View) × (v : View) ×
-            Fits z k stand.now n self.old desk.old lower.old u v }
+            Fits z k position.now n self.old read_set.old lower.old u v }
         ensures left { ended_at self.old ≡ None → steps_left self.new < steps_left self.old }
-        ensures node { node_of desk.new ≡ node_of desk.old }
+        ensures node { node_of read_set.new ≡ node_of read_set.old }
         ensures fits { (z : Sizes) (k : List ℕ) (n : NodeOf) (deed : Deed) (u v w : View) (asked : ActionOf) →
-            Fits z k stand.now n self.old desk.old lower.old u v → asks stand.now self.old ≡ Some asked →
-            Answers z (telling deed) asked answer v w → Fits z k stand.now n self.new desk.new lower.new u w }
+            Fits z k position.now n self.old read_set.old lower.old u v → asks position.now self.old ≡ Some asked →
+            Answers z (telling deed) asked answer v w → Fits z k position.now n self.new read_set.new lower.new u w }
     {
         *self = match *self {
             Lowering::Beginning(_) => lower_begun(lower, answer),
-            Lowering::Named(stamp) => name_checked(stand, desk, lower, stamp, answer),
-            Lowering::Above(stamp, rereading) => {
-                above_told(stand, desk, lower, stamp, rereading, answer)
-            }
-            Lowering::Lower(stamp, rereading) => lower_told(lower, stamp, rereading, answer),
+            Lowering::Named(stamp) => name_checked(position, read_set, lower, stamp, answer),
+            Lowering::Above {
+                lower: stamp,
+                reading: rereading,
+            } => { above_told(position, read_set, lower, stamp, rereading, answer) }
+            Lowering::Lower {
+                lower: stamp,
+                reading: rereading,
+            } => lower_told(lower, stamp, rereading, answer),
             Lowering::CheckAbove(stamp) => checked(answer, Lowering::CheckHere(stamp)),
             Lowering::CheckHere(stamp) => checked(answer, Lowering::CheckLower(stamp)),
             Lowering::CheckLower(stamp) => {
@@ -163,15 +173,15 @@ impl Lowering {
     /// How it ended, if it has.
     pub fn ended(&self) -> Option<Lowered>
         ensures at { result ≡ ended_at self.now }
-        ensures seen { (z : Sizes) (k : List ℕ) (t : StandOf) (n : NodeOf) (desk : DeskOf) (lower : List (Option ℕ)) (u v : View)
-            (x : StampOf) → Fits z k t n self.now desk lower u v → ended_at self.now ≡ Some (unchanged x) →
-            IsReadBelow z t desk n x lower v }
-        ensures known { (z : Sizes) (k : List ℕ) (t : StandOf) (lower : LowerOf) (desk : DeskOf) (reads : List (Option ℕ)) (u v : View) →
-            Fits z k t lower.node self.now desk reads u v → ended_at self.now ≡ Some (unchanged lower.stamp) →
-            AreSeen z k t desk × IsLowerSeen z lower reads × IsStanding z k t desk v × StillKnown z v lower reads }
-        ensures other { (z : Sizes) (k : List ℕ) (t : StandOf) (n : NodeOf) (desk : DeskOf) (lower : List (Option ℕ)) (u v : View)
-            (x : StampOf) (old : OldLeafOf) (beside : ℕ) (d : LinkOf) → Fits z k t n self.now desk lower u v →
-            ended_at self.now ≡ Some (unchanged x) → HasOther t desk old beside d → d ≡ node_link n }
+        ensures seen { (z : Sizes) (k : List ℕ) (t : PositionOf) (n : NodeOf) (read_set : ReadSetOf) (lower : List (Option ℕ)) (u v : View)
+            (x : StampOf) → Fits z k t n self.now read_set lower u v → ended_at self.now ≡ Some (unchanged x) →
+            IsReadBelow z t read_set n x lower v }
+        ensures known { (z : Sizes) (k : List ℕ) (t : PositionOf) (lower : LowerOf) (read_set : ReadSetOf) (reads : List (Option ℕ)) (u v : View) →
+            Fits z k t lower.node self.now read_set reads u v → ended_at self.now ≡ Some (unchanged lower.stamp) →
+            AreSeen z k t read_set × IsLowerSeen z lower reads × IsStanding z k t read_set v × StillKnown z v lower reads }
+        ensures other { (z : Sizes) (k : List ℕ) (t : PositionOf) (n : NodeOf) (read_set : ReadSetOf) (lower : List (Option ℕ)) (u v : View)
+            (x : StampOf) (old : OldLeafOf) (beside : ℕ) (d : LinkOf) → Fits z k t n self.now read_set lower u v →
+            ended_at self.now ≡ Some (unchanged x) → HasOther t read_set old beside d → d ≡ node_link n }
     {
         match *self {
             Lowering::Ended(lowered) => Some(lowered),
@@ -180,20 +190,30 @@ impl Lowering {
     }
 
     /// The next step, by the stage alone.
-    fn asked(&self, stand: &Stand) -> Option<Action>
-        ensures { result ≡ asks stand.now self.now }
+    fn asked(&self, position: &Position) -> Option<Action>
+        ensures { result ≡ asks position.now self.now }
     {
         match *self {
             Lowering::Beginning(node) => Some(Action::Begin {
                 cell: Cell::Node(node),
             }),
-            Lowering::Named(_) => Some(Action::Check { stamp: stand.stamp }),
-            Lowering::Above(_, rereading) => rereading.next(stand.above?.stamp),
-            Lowering::Lower(stamp, rereading) => rereading.next(stamp),
-            Lowering::CheckAbove(_) => Some(Action::Check {
-                stamp: stand.above?.stamp,
+            Lowering::Named(_) => Some(Action::Check {
+                stamp: position.stamp,
             }),
-            Lowering::CheckHere(_) => Some(Action::Check { stamp: stand.stamp }),
+            Lowering::Above {
+                reading: rereading,
+                ..
+            } => rereading.next(position.above?.stamp),
+            Lowering::Lower {
+                lower: stamp,
+                reading: rereading,
+            } => rereading.next(stamp),
+            Lowering::CheckAbove(_) => Some(Action::Check {
+                stamp: position.above?.stamp,
+            }),
+            Lowering::CheckHere(_) => Some(Action::Check {
+                stamp: position.stamp,
+            }),
             Lowering::CheckLower(stamp) => Some(Action::Check { stamp }),
             Lowering::Ended(_) => None,
         }
@@ -203,9 +223,9 @@ impl Lowering {
 /// The version word of the lower node was found. A clear one gave a stamp, under which nothing is read yet.
 fn lower_begun(lower: &mut Reads, answer: Answer) -> Lowering
     ensures few { steps_left result ≤ 534 }
-    ensures fits { (z : Sizes) (k : List ℕ) (t : StandOf) (m n : NodeOf) (desk : DeskOf) (deed : Deed) (u v w : View)
-        (asked : ActionOf) → Fits z k t n (beginning m) desk lower.old u v → asks t (beginning m) ≡ Some asked →
-        Answers z (telling deed) asked answer v w → Fits z k t n result desk lower.new u w }
+    ensures fits { (z : Sizes) (k : List ℕ) (t : PositionOf) (m n : NodeOf) (read_set : ReadSetOf) (deed : Deed) (u v w : View)
+        (asked : ActionOf) → Fits z k t n (beginning m) read_set lower.old u v → asks t (beginning m) ≡ Some asked →
+        Answers z (telling deed) asked answer v w → Fits z k t n result read_set lower.new u w }
 {
     let Answer::Begun { result } = answer else {
         return Lowering::Ended(Lowered::Changed);
@@ -220,66 +240,80 @@ fn lower_begun(lower: &mut Reads, answer: Answer) -> Lowering
 }
 
 /// The node that names the lower one was checked. Where it is unchanged, that is its child, and words are read.
-fn name_checked(stand: &Stand, desk: &Desk, lower: &Reads, stamp: Stamp, answer: Answer) -> Lowering
+fn name_checked(
+    position: &Position,
+    read_set: &ReadSet,
+    lower: &Reads,
+    stamp: Stamp,
+    answer: Answer,
+) -> Lowering
     requires { (z : Sizes) × (k : List ℕ) × (n : NodeOf) × (u : View) × (v : View) ×
-        Fits z k stand.now n (named stamp) desk.now lower.now u v }
+        Fits z k position.now n (named stamp) read_set.now lower.now u v }
     ensures few { steps_left result ≤ 533 }
     ensures fits { (z : Sizes) (k : List ℕ) (n : NodeOf) (deed : Deed) (u v w : View) (asked : ActionOf) →
-        Fits z k stand.now n (named stamp) desk.now lower.now u v → asks stand.now (named stamp) ≡ Some asked →
-        Answers z (telling deed) asked answer v w → Fits z k stand.now n result desk.now lower.now u w }
+        Fits z k position.now n (named stamp) read_set.now lower.now u v → asks position.now (named stamp) ≡ Some asked →
+        Answers z (telling deed) asked answer v w → Fits z k position.now n result read_set.now lower.now u w }
 {
     if !answer.passed() {
         return Lowering::Ended(Lowered::Changed);
     }
-    above_read_on(above_in(stand), lower, stamp, Rereading::new(desk.above()))
+    above_read_on(
+        above_in(position),
+        lower,
+        stamp,
+        Rereading::new(read_set.above()),
+    )
 }
 
 /// A word of the cell above was read.
 fn above_told(
-    stand: &Stand,
-    desk: &mut Desk,
+    position: &Position,
+    read_set: &mut ReadSet,
     lower: &Reads,
     stamp: Stamp,
     rereading: Rereading,
     answer: Answer,
 ) -> Lowering
     requires { (z : Sizes) × (k : List ℕ) × (n : NodeOf) × (u : View) × (v : View) ×
-        Fits z k stand.now n (above_read stamp rereading) desk.old lower.now u v }
+        Fits z k position.now n (above_read stamp rereading) read_set.old lower.now u v }
     ensures left { steps_left result < steps_left (above_read stamp rereading) }
-    ensures node { node_of desk.new ≡ node_of desk.old }
+    ensures node { node_of read_set.new ≡ node_of read_set.old }
     ensures fits { (z : Sizes) (k : List ℕ) (n : NodeOf) (deed : Deed) (u v w : View) (asked : ActionOf) →
-        Fits z k stand.now n (above_read stamp rereading) desk.old lower.now u v →
-        asks stand.now (above_read stamp rereading) ≡ Some asked → Answers z (telling deed) asked answer v w →
-        Fits z k stand.now n result desk.new lower.now u w }
+        Fits z k position.now n (above_read stamp rereading) read_set.old lower.now u v →
+        asks position.now (above_read stamp rereading) ≡ Some asked → Answers z (telling deed) asked answer v w →
+        Fits z k position.now n result read_set.new lower.now u w }
 {
     let mut rereading = rereading;
-    desk.reread_above(&mut rereading, answer.found());
-    above_read_on(above_in(stand), lower, stamp, rereading)
+    read_set.reread_above(&mut rereading, answer.found());
+    above_read_on(above_in(position), lower, stamp, rereading)
 }
 
 /// The cell above is read on, or all its words are known, and the lower node is read.
 fn above_read_on(above: Above, lower: &Reads, stamp: Stamp, rereading: Rereading) -> Lowering
     ensures few { steps_left result ≤ 266 - rereading.place + 268 }
-    ensures fits { (z : Sizes) (k : List ℕ) (t : StandOf) (n : NodeOf) (desk : DeskOf) (u v : View) →
-        IsLowering z k t n desk u v → IsBelow z k t desk n stamp lower.now v → WouldLead k t desk n v →
+    ensures fits { (z : Sizes) (k : List ℕ) (t : PositionOf) (n : NodeOf) (read_set : ReadSetOf) (u v : View) →
+        IsLowering z k t n read_set u v → IsBelow z k t read_set n stamp lower.now v → WouldLead k t read_set n v →
         HasLeft u v (266 - rereading.place + 268) 535 → t.above ≡ Some above →
-        RereadingFits z v above.stamp rereading (above_of desk) → Fits z k t n result desk lower.now u v }
+        RereadingFits z v above.stamp rereading (above_of read_set) → Fits z k t n result read_set lower.now u v }
 {
     match rereading.next(above.stamp) {
-        Some(_) => Lowering::Above(stamp, rereading),
+        Some(_) => Lowering::Above {
+            lower: stamp,
+            reading: rereading,
+        },
         None => lower_read_on(stamp, Rereading::new(lower)),
     }
 }
 
 /// A word of the lower node was read.
 fn lower_told(lower: &mut Reads, stamp: Stamp, rereading: Rereading, answer: Answer) -> Lowering
-    requires { (z : Sizes) × (k : List ℕ) × (t : StandOf) × (n : NodeOf) × (desk : DeskOf) × (u : View) × (v : View) ×
-        Fits z k t n (lower_read stamp rereading) desk lower.old u v }
+    requires { (z : Sizes) × (k : List ℕ) × (t : PositionOf) × (n : NodeOf) × (read_set : ReadSetOf) × (u : View) × (v : View) ×
+        Fits z k t n (lower_read stamp rereading) read_set lower.old u v }
     ensures left { steps_left result < steps_left (lower_read stamp rereading) }
-    ensures fits { (z : Sizes) (k : List ℕ) (t : StandOf) (n : NodeOf) (desk : DeskOf) (deed : Deed) (u v w : View)
-        (asked : ActionOf) → Fits z k t n (lower_read stamp rereading) desk lower.old u v →
+    ensures fits { (z : Sizes) (k : List ℕ) (t : PositionOf) (n : NodeOf) (read_set : ReadSetOf) (deed : Deed) (u v w : View)
+        (asked : ActionOf) → Fits z k t n (lower_read stamp rereading) read_set lower.old u v →
         asks t (lower_read stamp rereading) ≡ Some asked → Answers z (telling deed) asked answer v w →
-        Fits z k t n result desk lower.new u w }
+        Fits z k t n result read_set lower.new u w }
 {
     let mut rereading = rereading;
     rereading.told(lower, answer.found());
@@ -289,23 +323,26 @@ fn lower_told(lower: &mut Reads, stamp: Stamp, rereading: Rereading, answer: Ans
 /// The lower node is read on, or all its words are known, and checks come next.
 fn lower_read_on(stamp: Stamp, rereading: Rereading) -> Lowering
     ensures few { steps_left result ≤ 266 - rereading.place + 3 }
-    ensures fits { (z : Sizes) (k : List ℕ) (t : StandOf) (n : NodeOf) (desk : DeskOf) (lower : List (Option ℕ)) (u v : View) →
-        IsLowering z k t n desk u v → IsBelow z k t desk n stamp lower v → WouldLead k t desk n v →
-        HasLeft u v (266 - rereading.place + 3) 535 → KnowsAbove true t desk → RereadingFits z v stamp rereading lower →
-        Fits z k t n result desk lower u v }
+    ensures fits { (z : Sizes) (k : List ℕ) (t : PositionOf) (n : NodeOf) (read_set : ReadSetOf) (lower : List (Option ℕ)) (u v : View) →
+        IsLowering z k t n read_set u v → IsBelow z k t read_set n stamp lower v → WouldLead k t read_set n v →
+        HasLeft u v (266 - rereading.place + 3) 535 → KnowsAbove true t read_set → RereadingFits z v stamp rereading lower →
+        Fits z k t n result read_set lower u v }
 {
     match rereading.next(stamp) {
-        Some(_) => Lowering::Lower(stamp, rereading),
+        Some(_) => Lowering::Lower {
+            lower: stamp,
+            reading: rereading,
+        },
         None => Lowering::CheckAbove(stamp),
     }
 }
 
 /// The cell above the node where the key stands.
-fn above_in(stand: &Stand) -> Above
-    requires { (above : AboveOf) × (stand.now.above ≡ Some above) }
-    ensures { stand.now.above ≡ Some result }
+fn above_in(position: &Position) -> Above
+    requires { (above : AboveOf) × (position.now.above ≡ Some above) }
+    ensures { position.now.above ≡ Some result }
 {
-    match stand.above {
+    match position.above {
         Some(above) => above,
         None => unreachable!(),
     }

@@ -10,13 +10,13 @@ use Rattle.art_key.specs.declared.bounds.Bound.{Bound as KeyBound}
 use Rattle.art_look.specs.Looks.{Settles, StageFits, asks}
 use Rattle.art_look.specs.declared.looks.LookStage.{LookStage}
 use Rattle.art_look.specs.declared.looks.LookStage.TheVariants.{Start, Anchor, Child, Below, Both, Header, Prefix, Keys, Slot, Value, Length, Bytes, Decided, Ended}
-use Rattle.art_look.specs.declared.trails.Trail.{Trail}
+use Rattle.art_look.specs.declared.path_buffers.PathBuffer.{PathBuffer}
 use Rattle.art_step.specs.Views.{size_of}
 use Rattle.art_step.specs.WordPlaces.{IsInside}
 use Rattle.art_step.specs.declared.views.Sizes.{Sizes}
 use Rattle.art_step.specs.declared.views.View.{View}
 
-pub allowed : (z : Sizes) (lo : List ℕ) (hi : KeyBound) (depth : ℕ) (t : Trail) (stage : LookStage) (u v : View) → StageFits z lo hi depth stage t u v → IfSome (asks stage) (MayLook z (Settles lo t stage) v)
+pub allowed : (z : Sizes) (lo : List ℕ) (hi : KeyBound) (depth : ℕ) (t : PathBuffer) (stage : LookStage) (u v : View) → StageFits z lo hi depth stage t u v → IfSome (asks stage) (MayLook z (Settles lo t stage) v)
 allowed z lo hi depth t Start u v fits = (tt, record { pinned = fits.pinned; named = tt })
 allowed z lo hi depth t (Anchor x) u v fits = (
   subst (IsInside z) (sym fits.2) tt,

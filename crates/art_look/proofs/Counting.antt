@@ -13,7 +13,7 @@ use Rattle.art_look.specs.declared.fronts.Front.{Front}
 use Rattle.art_look.specs.declared.looks.ChildSought.{ChildSought}
 use Rattle.art_look.specs.declared.looks.LookStage.{LookStage}
 use Rattle.art_look.specs.declared.looks.LookStage.TheVariants.{Start, Anchor, Child, Below, Both, Header, Prefix, Keys, Slot, Value, Length, Bytes, Decided, Ended}
-use Rattle.art_look.specs.declared.trails.Trail.{Trail}
+use Rattle.art_look.specs.declared.path_buffers.PathBuffer.{PathBuffer}
 use Rattle.art_node.specs.Searches.{AsksLaterFrom}
 use Rattle.art_node.specs.declared.searches.SoughtFrom.{SoughtFrom}
 use Rattle.art_node.specs.declared.searches.SoughtFrom.TheVariants as sought
@@ -22,7 +22,7 @@ use Rattle.art_step.specs.declared.views.Stamp.{Stamp}
 use Rattle.art_step.specs.declared.views.View.{View}
 
 -- a look made fewer than 30,000 steps since it last began
-pub few_steps : (z : Sizes) (lo : List ℕ) (hi : KeyBound) (depth : ℕ) (t : Trail) (stage : LookStage) (u v : View) → StageFits z lo hi depth stage t u v → most_steps depth stage < 30000
+pub few_steps : (z : Sizes) (lo : List ℕ) (hi : KeyBound) (depth : ℕ) (t : PathBuffer) (stage : LookStage) (u v : View) → StageFits z lo hi depth stage t u v → most_steps depth stage < 30000
 few_steps z lo hi depth t Start u v fits = omega arith
 few_steps z lo hi depth t (Anchor x) u v fits = omega arith
 few_steps z lo hi depth t (Child x d) u v fits = let few = fits.1.few in omega (arith, few)

@@ -8,7 +8,7 @@ use Rattle.art_look.specs.Looks.{has_ended, seen_at}
 use Rattle.art_look.specs.Seen.{bound_at}
 use Rattle.art_look.specs.declared.looks.Look.{Look}
 use Rattle.art_look.specs.declared.looks.Seen.{Seen}
-use Rattle.art_look.specs.declared.trails.Trail.{Trail}
+use Rattle.art_look.specs.declared.path_buffers.PathBuffer.{PathBuffer}
 use Rattle.art_look.proofs.Stages.{has_seen, look_ends, seen_after, seen_within}
 use Rattle.art_look.proofs.Table.{before_below}
 use Rattle.art_step.specs.Deeds.{bound_of}
@@ -18,7 +18,7 @@ use Rattle.art_tree.specs.Looks.{AreBytes, IsBelow}
 use Rattle.art_tree.specs.declared.bounds.Bound.TheVariants.{To}
 
 -- a step keeps what fits, where the sizes are the same
-pub stepped : (y z : Sizes) → y ≡ z → (lo : List ℕ) (hi : KeyBound) (u v w : View) (m m' : Look) (t t' : Trail) (n k : ℕ)
+pub stepped : (y z : Sizes) → y ≡ z → (lo : List ℕ) (hi : KeyBound) (u v w : View) (m m' : Look) (t t' : PathBuffer) (n k : ℕ)
     → (LookFits y lo hi u v m t n → LookFits y lo hi u w m' t' k) → LookFits z lo hi u v m t n → LookFits z lo hi u w m' t' k
 stepped y z same lo hi u v w m m' t t' n k step fits = subst (λ (s : Sizes). LookFits s lo hi u w m' t' k) same (step (subst (λ (s : Sizes). LookFits s lo hi u v m t n) (sym same) fits))
 
@@ -28,7 +28,7 @@ bytes_are (a ∷ xs) low = (low 0, bytes_are xs (λ i. low (suc i)))
 
 module _ (z : Sizes) (lo : List ℕ) (hi : KeyBound) (u w : View) where
   -- once it has ended
-  module _ (m : Look) (t : Trail) (n : ℕ) (ended : has_ended m.stage ≡ true) (fits : LookFits z lo hi u w m t n) where
+  module _ (m : Look) (t : PathBuffer) (n : ℕ) (ended : has_ended m.stage ≡ true) (fits : LookFits z lo hi u w m t n) where
     pub ended_with : (o : Option Seen) → seen_at lo hi t m.stage ≡ o → LookEnds z lo hi u w o
     ended_with (Some seen) is = look_ends z lo hi m.depth t m.stage seen u w ended is fits.fits
     ended_with None is = absurd (has_seen lo hi t m.stage ended is)

@@ -28,7 +28,7 @@ use Rattle.art_look.specs.Straight.{HasGone, IsUnderWay}
 use Rattle.art_look.specs.declared.looks.Look.{Look}
 use Rattle.art_look.specs.declared.looks.LookStage.{LookStage}
 use Rattle.art_look.specs.declared.looks.LookStage.TheVariants.{Start, Anchor, Child, Below, Both, Header, Prefix, Keys, Slot, Value, Length, Bytes, Decided, Ended}
-use Rattle.art_look.specs.declared.trails.Trail.{Trail}
+use Rattle.art_look.specs.declared.path_buffers.PathBuffer.{PathBuffer}
 use Rattle.art_step.proofs.Shows.{begun_rest, failed_rest}
 use Rattle.art_step.specs.Steps.Begin as begin
 use Rattle.art_step.specs.Steps.Check as check
@@ -40,20 +40,20 @@ use Rattle.art_step.specs.declared.views.Stamp.{Stamp}
 use Rattle.art_step.specs.declared.views.View.{View}
 
 -- what a look asks for may be made
-may_make : (z : Sizes) (lo : List ℕ) (hi : KeyBound) (u v : View) (m : Look) (t : Trail) (a : Action) → asks m.stage ≡ Some a → Fits z lo hi m t u v → MayLook z (Settles lo t m.stage) v a
+may_make : (z : Sizes) (lo : List ℕ) (hi : KeyBound) (u v : View) (m : Look) (t : PathBuffer) (a : Action) → asks m.stage ≡ Some a → Fits z lo hi m t u v → MayLook z (Settles lo t m.stage) v a
 may_make z lo hi u v m t a is fits = subst (λ (o : Option Action). IfSome o (MayLook z (Settles lo t m.stage) v)) is (allowed z lo hi m.depth t m.stage u v fits)
 
 -- at this stage
-pub may_go : (z : Sizes) (lo : List ℕ) (v : View) (m : Look) (t : Trail) (c : Tally) → IsUnderWay z lo v m t c → (stage : LookStage) → m.stage ≡ stage → (a : Action) → asks stage ≡ Some a → MayLook z (Settles lo t m.stage) v a
+pub may_go : (z : Sizes) (lo : List ℕ) (v : View) (m : Look) (t : PathBuffer) (c : Tally) → IsUnderWay z lo v m t c → (stage : LookStage) → m.stage ≡ stage → (a : Action) → asks stage ≡ Some a → MayLook z (Settles lo t m.stage) v a
 may_go z lo v m t c way stage at a is = may_make z lo way.0 way.1 v m t a (ap (λ (s : LookStage). asks s) at ∙ is) way.2.fits
 
 -- ---- a version word was locked, obsolete or changed
 
-pub begun_fails : (z : Sizes) (lo : List ℕ) (hi : KeyBound) (m : Look) (t : Trail) (u v w : View) (c : Cell) (e : Locked) → asks m.stage ≡ Some (Begin c) → Fits z lo hi m t u v → begin.Outcome z v w c (Err e) → IsReading u w
+pub begun_fails : (z : Sizes) (lo : List ℕ) (hi : KeyBound) (m : Look) (t : PathBuffer) (u v w : View) (c : Cell) (e : Locked) → asks m.stage ≡ Some (Begin c) → Fits z lo hi m t u v → begin.Outcome z v w c (Err e) → IsReading u w
 begun_fails z lo hi m t u v w c e is fits row =
     reads_on u v w (begun_rest z v w c e.found row.2) (begun_again z lo hi m.depth t m.stage u v (subst (λ (o : Option Action). WantsVersion o) (sym is) tt) fits)
 
-pub check_fails : (z : Sizes) (lo : List ℕ) (hi : KeyBound) (m : Look) (t : Trail) (u v w : View) (x : Stamp) (e : Changed) → asks m.stage ≡ Some (Check x) → Fits z lo hi m t u v → check.Outcome {A = Unit {0}} z v w x None (Err e) → IsReading u w
+pub check_fails : (z : Sizes) (lo : List ℕ) (hi : KeyBound) (m : Look) (t : PathBuffer) (u v w : View) (x : Stamp) (e : Changed) → asks m.stage ≡ Some (Check x) → Fits z lo hi m t u v → check.Outcome {A = Unit {0}} z v w x None (Err e) → IsReading u w
 check_fails z lo hi m t u v w x e is fits row =
     reads_on u v w (failed_rest v w x e.found row.3) (checked_again z lo hi m.depth t m.stage u v (subst (λ (o : Option Action). WantsCheck o) (sym is) tt) fits)
 
@@ -91,7 +91,7 @@ asks_look (Ended r o) a e = absurd (cc)
 
 -- ---- one step more
 
-module _ (z : Sizes) (lo : List ℕ) (v w : View) (m m' : Look) (t t' : Trail) (a : Action) (answer : Answer) (on : Bool) (is : on ≡ goes_on answer) (row : (d : Deed) → Answers z (telling d) a answer v w) (look : IsLook a) where
+module _ (z : Sizes) (lo : List ℕ) (v w : View) (m m' : Look) (t t' : PathBuffer) (a : Action) (answer : Answer) (on : Bool) (is : on ≡ goes_on answer) (row : (d : Deed) → Answers z (telling d) a answer v w) (look : IsLook a) where
   -- a step that was made and heard keeps what fits
   further : (hi : KeyBound) (u : View) (n : ℕ) → (on ≡ true → most_steps m.depth m.stage < most_steps m'.depth m'.stage) → least_steps m'.stage ≤ least_steps m.stage + 1
       → Fits z lo hi m' t' u w → LookFits z lo hi u v m t n → LookFits z lo hi u w m' t' (restarts_after n on)

@@ -36,7 +36,7 @@ use Rattle.art_look.specs.Fronts.{IsFront, IsLow, IsPast, is_within, low_at}
 use Rattle.art_look.specs.Looks.{IsNamed, IsOnWay, IsSought, Settles, StageFits, asks, deed_at, has_ended, next_child, seen_at, stage_below, stage_past, staged}
 use Rattle.art_look.specs.Seen.{bound_at, look_done, nearer, seen_of, with_key}
 use Rattle.art_look.specs.Table.{HasNode, IsBefore, IsLeast, IsRow, end_at}
-use Rattle.art_look.specs.Trails.{HasFirst, HasFirstValue, Leads, SeeksChild, SpellsKey, SpellsPath, SpellsPrefix}
+use Rattle.art_look.specs.PathBuffers.{HasFirst, HasFirstValue, Leads, SeeksChild, SpellsKey, SpellsPath, SpellsPrefix}
 use Rattle.art_look.specs.declared.fronts.Front.{Front}
 use Rattle.art_look.specs.declared.fronts.Front.TheVariants.{Within, Beyond}
 use Rattle.art_look.specs.declared.looks.ChildSought.{ChildSought}
@@ -45,7 +45,7 @@ use Rattle.art_look.specs.declared.looks.LookStage.TheVariants.{Start, Anchor, C
 use Rattle.art_look.specs.declared.looks.Reach.{Reach}
 use Rattle.art_look.specs.declared.looks.Reach.TheVariants.{Past, UpTo}
 use Rattle.art_look.specs.declared.looks.Seen.{Seen}
-use Rattle.art_look.specs.declared.trails.Trail.{Trail}
+use Rattle.art_look.specs.declared.path_buffers.PathBuffer.{PathBuffer}
 use Rattle.art_look.proofs.Ends.{front_low, not_past, not_within_apart}
 use Rattle.art_look.proofs.Table.{bound_back, nearer_below, row_goes_on, row_is_exact}
 use Rattle.art_look.proofs.Spelling.{spelled_on, word_on}
@@ -73,7 +73,7 @@ use Rattle.art_tree.proofs.Meanings.{words_mean}
 
 -- ---- a cell was checked
 
-module _ (z : Sizes) (lo : List ℕ) (hi : KeyBound) (depth : ℕ) (t : Trail) (u v w : View) where
+module _ (z : Sizes) (lo : List ℕ) (hi : KeyBound) (depth : ℕ) (t : PathBuffer) (u v w : View) where
   abbrev q : List ℕ
   q = t.path.items
 
@@ -157,7 +157,7 @@ module _ (z : Sizes) (lo : List ℕ) (hi : KeyBound) (depth : ℕ) (t : Trail) (
 
 -- ---- the word of the anchor
 
-module _ (z : Sizes) (lo : List ℕ) (hi : KeyBound) (t : Trail) (u w : View) (x : Stamp) (at_front : t.path.items ≡ []) (reads : IsReading u w) (stamp : HasStamp z w x) (word : ℕ) (shows : Shows z w x (λ s. s cell.Anchor 1 ≡ word)) where
+module _ (z : Sizes) (lo : List ℕ) (hi : KeyBound) (t : PathBuffer) (u w : View) (x : Stamp) (at_front : t.path.items ≡ []) (reads : IsReading u w) (stamp : HasStamp z w x) (word : ℕ) (shows : Shows z w x (λ s. s cell.Anchor 1 ≡ word)) where
   root_is : (s : Cells) (o : Option Link) → s cell.Anchor 1 ≡ word → link_of word ≡ o → (heap_of s).root ≡ o
   root_is s o is names = (words_mean s).root ∙ ap link_of is ∙ names
 
@@ -252,7 +252,7 @@ spelled_more s n r header i word c q so_far is few = record { at = so_far.at; is
 same_front : (depth : ℕ) (q : List ℕ) → length q ≡ depth → take depth q ≡ q
 same_front depth q long = ap (λ (n : ℕ). take n q) (sym long) ∙ take-length q
 
-module _ (z : Sizes) (lo : List ℕ) (hi : KeyBound) (depth : ℕ) (t : Trail) (u w : View) where
+module _ (z : Sizes) (lo : List ℕ) (hi : KeyBound) (depth : ℕ) (t : PathBuffer) (u w : View) where
   abbrev path : List ℕ
   path = t.path.items
 
@@ -334,7 +334,7 @@ module _ (z : Sizes) (lo : List ℕ) (hi : KeyBound) (depth : ℕ) (t : Trail) (
         (whole_spelled z s n path seen.header shape is.at is.is_header path (subst (λ (c : ℕ). path ≡ path ++ map (packed (s (cell.Node n)) 2) (range_with_len 0 c)) (sym none) is.spelled))
 
     -- all that is below the node is before the lower end
-    pub before_fits : (t' : Trail) → t'.path.items ≡ take depth path → depth ≤ 64 → IsReading u w → Begins (take depth path) lo
+    pub before_fits : (t' : PathBuffer) → t'.path.items ≡ take depth path → depth ≤ 64 → IsReading u w → Begins (take depth path) lo
         → Before path lo → (Begins path lo → ⊥) → Shows z w y (λ s. SpellsPath s n (take depth path) seen.header path) → StageFits z lo hi depth (Decided y Past None) t' u w
     before_fits t' is few reads front before apart shows = (
       reads,
@@ -422,7 +422,7 @@ module _ (z : Sizes) (lo : List ℕ) (hi : KeyBound) (depth : ℕ) (t : Trail) (
 
 -- ---- its child
 
-module _ (z : Sizes) (lo : List ℕ) (hi : KeyBound) (depth : ℕ) (t : Trail) (u w : View) (a : ChildSought) (on : IsOn z u w a.seen.stamp a.seen.node) (sought : IsSought lo depth t.path.items a.front)
+module _ (z : Sizes) (lo : List ℕ) (hi : KeyBound) (depth : ℕ) (t : PathBuffer) (u w : View) (a : ChildSought) (on : IsOn z u w a.seen.stamp a.seen.node) (sought : IsSought lo depth t.path.items a.front)
     (from : low_at a.front lo t.path.items ≤ a.byte) (low : a.byte < 256) (word : ℕ)
     (shows : Shows z w a.seen.stamp (λ s. SeeksChild s a.seen.node (take depth t.path.items) t.path.items (low_at a.front lo t.path.items) a.byte a.place))
     (is : Shows z w a.seen.stamp (λ s. s (cell.Node a.seen.node) a.place ≡ word)) where
@@ -472,7 +472,7 @@ module _ (z : Sizes) (lo : List ℕ) (hi : KeyBound) (depth : ℕ) (t : Trail) (
   child_leads s (node m) names shape at here = has_child (node m) names s shape at here
 
   -- it is followed
-  pub child_fits : (t' : Trail) (d : Link) → t'.path.items ≡ p ++ a.byte ∷ [] → WasNoted w x word → link_of word ≡ Some d → IsOnWay lo (p ++ a.byte ∷ []) d → StageFits z lo hi (length t'.path.items) (Child x d) t' u w
+  pub child_fits : (t' : PathBuffer) (d : Link) → t'.path.items ≡ p ++ a.byte ∷ [] → WasNoted w x word → link_of word ≡ Some d → IsOnWay lo (p ++ a.byte ∷ []) d → StageFits z lo hi (length t'.path.items) (Child x d) t' u w
   child_fits t' d grown noted names way = (
     on.reads,
     record {
@@ -487,7 +487,7 @@ module _ (z : Sizes) (lo : List ℕ) (hi : KeyBound) (depth : ℕ) (t : Trail) (
   )
 
   -- the look ends at it
-  pub up_to_fits : (t' : Trail) (m : Node) → t'.path.items ≡ p ++ a.byte ∷ [] → link_of word ≡ Some (node m) → is_within a.front lo p a.byte ≡ false → StageFits z lo hi depth (Decided x UpTo None) t' u w
+  pub up_to_fits : (t' : PathBuffer) (m : Node) → t'.path.items ≡ p ++ a.byte ∷ [] → link_of word ≡ Some (node m) → is_within a.front lo p a.byte ≡ false → StageFits z lo hi depth (Decided x UpTo None) t' u w
   up_to_fits t' m grown names apart = (
     on.reads,
     (let deep = sought.deep in let short = sought.short in omega (arith, deep, short)),
@@ -578,7 +578,7 @@ module _ (z : Sizes) (lo : List ℕ) (hi : KeyBound) (depth : ℕ) (t : Trail) (
 
 -- ---- the words of a leaf
 
-module _ (z : Sizes) (lo : List ℕ) (hi : KeyBound) (depth : ℕ) (t : Trail) (u w : View) (few : depth ≤ 64) where
+module _ (z : Sizes) (lo : List ℕ) (hi : KeyBound) (depth : ℕ) (t : PathBuffer) (u w : View) (few : depth ≤ 64) where
   abbrev way : List ℕ
   way = t.path.items
 
@@ -659,7 +659,7 @@ module _ (z : Sizes) (lo : List ℕ) (hi : KeyBound) (depth : ℕ) (t : Trail) (
 -- ---- where the stage is known by an equation
 
 -- what is asked there, and what it answered
-pub at_stage : (z : Sizes) (lo : List ℕ) (hi : KeyBound) (depth : ℕ) (t : Trail) (stage now : LookStage) (a : Action) (answer : Answer) (u v w : View) → stage ≡ now → asks stage ≡ Some a
+pub at_stage : (z : Sizes) (lo : List ℕ) (hi : KeyBound) (depth : ℕ) (t : PathBuffer) (stage now : LookStage) (a : Action) (answer : Answer) (u v w : View) → stage ≡ now → asks stage ≡ Some a
     → StageFits z lo hi depth stage t u v → Answers z (telling (deed_at lo hi t stage)) a answer v w
     → StageFits z lo hi depth now t u v × ((b : Action) → asks now ≡ Some b → Answers z (telling (deed_at lo hi t now)) b answer v w)
 at_stage z lo hi depth t stage now a answer u v w is asked fits row = (
@@ -669,7 +669,7 @@ at_stage z lo hi depth t stage now a answer u v w is asked fits row = (
 
 -- ---- a version word that is not clear, or was changed
 
-pub begun_again : (z : Sizes) (lo : List ℕ) (hi : KeyBound) (depth : ℕ) (t : Trail) (stage : LookStage) (u v : View) → WantsVersion (asks stage) → StageFits z lo hi depth stage t u v → IsReading u v
+pub begun_again : (z : Sizes) (lo : List ℕ) (hi : KeyBound) (depth : ℕ) (t : PathBuffer) (stage : LookStage) (u v : View) → WantsVersion (asks stage) → StageFits z lo hi depth stage t u v → IsReading u v
 begun_again z lo hi depth t Start u v wants fits = fits
 begun_again z lo hi depth t (Below x n) u v wants fits = fits.0
 begun_again z lo hi depth t (Anchor x) u v wants fits = absurd wants
@@ -685,7 +685,7 @@ begun_again z lo hi depth t (Bytes seen i) u v wants fits = absurd wants
 begun_again z lo hi depth t (Decided x r o) u v wants fits = absurd wants
 begun_again z lo hi depth t (Ended r o) u v wants fits = absurd wants
 
-pub checked_again : (z : Sizes) (lo : List ℕ) (hi : KeyBound) (depth : ℕ) (t : Trail) (stage : LookStage) (u v : View) → WantsCheck (asks stage) → StageFits z lo hi depth stage t u v → IsReading u v
+pub checked_again : (z : Sizes) (lo : List ℕ) (hi : KeyBound) (depth : ℕ) (t : PathBuffer) (stage : LookStage) (u v : View) → WantsCheck (asks stage) → StageFits z lo hi depth stage t u v → IsReading u v
 checked_again z lo hi depth t (Child x d) u v wants fits = fits.0
 checked_again z lo hi depth t (Both x y n) u v wants fits = fits.0.reads
 checked_again z lo hi depth t (Decided x r o) u v wants fits = fits.0
@@ -703,7 +703,7 @@ checked_again z lo hi depth t (Ended r o) u v wants fits = absurd wants
 
 -- ---- until it has ended, and then
 
-pub still_reading : (z : Sizes) (lo : List ℕ) (hi : KeyBound) (depth : ℕ) (t : Trail) (stage : LookStage) (u v : View) → has_ended stage ≡ false → StageFits z lo hi depth stage t u v → IsReading u v
+pub still_reading : (z : Sizes) (lo : List ℕ) (hi : KeyBound) (depth : ℕ) (t : PathBuffer) (stage : LookStage) (u v : View) → has_ended stage ≡ false → StageFits z lo hi depth stage t u v → IsReading u v
 still_reading z lo hi depth t Start u v going fits = fits
 still_reading z lo hi depth t (Anchor x) u v going fits = fits.0
 still_reading z lo hi depth t (Child x d) u v going fits = fits.0
@@ -721,7 +721,7 @@ still_reading z lo hi depth t (Ended r o) u v going fits = absurd (true≢false 
 
 -- ---- what was seen is exact
 
-pub settled_row : (z : Sizes) (lo : List ℕ) (hi : KeyBound) (t : Trail) (stage : LookStage) (x : Stamp) (seen : Seen) → asks stage ≡ Some (Settle x) → seen_at lo hi t stage ≡ Some seen
+pub settled_row : (z : Sizes) (lo : List ℕ) (hi : KeyBound) (t : PathBuffer) (stage : LookStage) (x : Stamp) (seen : Seen) → asks stage ≡ Some (Settle x) → seen_at lo hi t stage ≡ Some seen
     → (s : Cells) (m : ByteMap) → IsShape z s → HasRows (heap_of s) m → Settles lo t stage s → OnlyRow m seen.lo.items (bound_of seen.hi) seen.row
 settled_row z lo hi t (Decided y r o) x seen asked is s m shape rows row =
     subst (λ (a : Seen). OnlyRow m a.lo.items (bound_of a.hi) a.row) (same_Some {A = Seen} (seen_of lo hi t.path.items t.key.items r o) seen is) (row_is_exact s shape.tree m rows lo hi t.path.items t.key.items r o row)
@@ -740,7 +740,7 @@ settled_row z lo hi t (Bytes a i) x seen asked is s m shape rows row = absurd (n
 settled_row z lo hi t (Ended r o) x seen asked is s m shape rows row = absurd (none-some (Settle x) asked)
 
 -- once it has ended
-pub look_ends : (z : Sizes) (lo : List ℕ) (hi : KeyBound) (depth : ℕ) (t : Trail) (stage : LookStage) (seen : Seen) (u v : View) → has_ended stage ≡ true → seen_at lo hi t stage ≡ Some seen → StageFits z lo hi depth stage t u v → LookEnds z lo hi u v (Some seen)
+pub look_ends : (z : Sizes) (lo : List ℕ) (hi : KeyBound) (depth : ℕ) (t : PathBuffer) (stage : LookStage) (seen : Seen) (u v : View) → has_ended stage ≡ true → seen_at lo hi t stage ≡ Some seen → StageFits z lo hi depth stage t u v → LookEnds z lo hi u v (Some seen)
 look_ends z lo hi depth t (Ended r o) seen u v ended is fits =
     let same = same_Some {A = Seen} (seen_of lo hi t.path.items t.key.items r o) seen is in (
       subst (λ (a : Seen). MakesEvent u v (look_done a)) same fits.0,
@@ -762,7 +762,7 @@ look_ends z lo hi depth t (Bytes a i) seen u v ended is fits = absurd (true≢fa
 look_ends z lo hi depth t (Decided y r o) seen u v ended is fits = absurd (true≢false (sym ended))
 
 -- it has seen something then
-pub has_seen : (lo : List ℕ) (hi : KeyBound) (t : Trail) (stage : LookStage) → has_ended stage ≡ true → seen_at lo hi t stage ≡ None → ⊥
+pub has_seen : (lo : List ℕ) (hi : KeyBound) (t : PathBuffer) (stage : LookStage) → has_ended stage ≡ true → seen_at lo hi t stage ≡ None → ⊥
 has_seen lo hi t (Ended r o) ended none = none-some (seen_of lo hi t.path.items t.key.items r o) (sym none)
 has_seen lo hi t Start ended none = true≢false (sym ended)
 has_seen lo hi t (Anchor y) ended none = true≢false (sym ended)

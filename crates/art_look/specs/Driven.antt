@@ -7,7 +7,7 @@ use Rattle.art_look.specs.Seen.{Stood, look_done, seen_of}
 use Rattle.art_look.specs.declared.looks.Look.{Look}
 use Rattle.art_look.specs.declared.looks.Reach.{Reach}
 use Rattle.art_look.specs.declared.looks.Seen.{Seen}
-use Rattle.art_look.specs.declared.trails.Trail.{Trail}
+use Rattle.art_look.specs.declared.path_buffers.PathBuffer.{PathBuffer}
 use Rattle.art_step.specs.Events.{MakesEvent}
 use Rattle.art_step.specs.Shows.{OnlyReads, OnlyTells}
 use Rattle.art_step.specs.declared.views.Sizes.{Sizes}
@@ -27,7 +27,7 @@ abbrev pub LookEnds : Sizes → List ℕ → KeyBound → View → View → Opti
 LookEnds z lo hi u w (Some seen) = MakesEvent u w (look_done seen) × OnlyTells u w × IsSeen z lo hi seen
 LookEnds z lo hi u w None = OnlyReads u w
 
-pub record LookFits (z : Sizes) (lo : List ℕ) (hi : KeyBound) (u v : View) (m : Look) (t : Trail) (restarts : ℕ) : Type 0 where
+pub record LookFits (z : Sizes) (lo : List ℕ) (hi : KeyBound) (u v : View) (m : Look) (t : PathBuffer) (restarts : ℕ) : Type 0 where
   pub fits : Fits z lo hi m t u v
   pub counts : Counts u v (most_steps m.depth m.stage) restarts
   pub least : u.steps + least_steps m.stage ≤ v.steps

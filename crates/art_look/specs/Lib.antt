@@ -4,4 +4,4 @@ pub mod Looks
 pub mod Seen
 pub mod Straight
 pub mod Table
-pub mod Trails
+pub mod PathBuffers

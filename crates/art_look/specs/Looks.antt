@@ -17,7 +17,7 @@ use Rattle.art_key.specs.declared.bounds.Bound.{Bound as KeyBound}
 use Rattle.art_look.specs.Fronts.{IsFront, low_at}
 use Rattle.art_look.specs.Seen.{Stood, look_done, seen_of, with_key}
 use Rattle.art_look.specs.Table.{IsRow}
-use Rattle.art_look.specs.Trails.{HasFirst, HasFirstValue, Leads, SeeksChild, SeeksKeys, SpellsKey, SpellsWords}
+use Rattle.art_look.specs.PathBuffers.{HasFirst, HasFirstValue, Leads, SeeksChild, SeeksKeys, SpellsKey, SpellsWords}
 use Rattle.art_look.specs.declared.fronts.Front.{Front}
 use Rattle.std.specs.Option.{option_map}
 use Rattle.art_look.specs.declared.looks.ChildSought.{ChildSought}
@@ -27,7 +27,7 @@ use Rattle.art_look.specs.declared.looks.LookStage.TheVariants.{Start, Anchor, C
 use Rattle.art_look.specs.declared.looks.Reach.TheVariants.{Past}
 use Rattle.art_look.specs.declared.looks.Reached.{Reached}
 use Rattle.art_look.specs.declared.looks.Seen.{Seen}
-use Rattle.art_look.specs.declared.trails.Trail.{Trail}
+use Rattle.art_look.specs.declared.path_buffers.PathBuffer.{PathBuffer}
 use Rattle.art_node.specs.declared.searches.SoughtFrom.{SoughtFrom}
 use Rattle.art_node.specs.declared.searches.SoughtFrom.TheVariants as sought
 use Rattle.art_step.specs.Events.{MakesEvent}
@@ -73,21 +73,21 @@ reached_at (Decided x r o) = Some (record { reach = r; value = o })
 reached_at (Ended r o) = Some (record { reach = r; value = o })
 reached_at stage = None
 
--- what it has seen of the range, with the trail's path and key
-abbrev pub seen_to : List ℕ → KeyBound → Trail → Reached → Seen
+-- what it has seen of the range, with the path buffer's path and key
+abbrev pub seen_to : List ℕ → KeyBound → PathBuffer → Reached → Seen
 seen_to lo hi t r = seen_of lo hi t.path.items t.key.items r.reach r.value
 
 -- the same, where it has come to that
-abbrev pub seen_at : List ℕ → KeyBound → Trail → LookStage → Option Seen
+abbrev pub seen_at : List ℕ → KeyBound → PathBuffer → LookStage → Option Seen
 seen_at lo hi t stage = option_map (seen_to lo hi t) (reached_at stage)
 
 -- the event that it makes there
-abbrev pub deed_at : List ℕ → KeyBound → Trail → LookStage → Deed
+abbrev pub deed_at : List ℕ → KeyBound → PathBuffer → LookStage → Deed
 deed_at lo hi t (Decided x r o) = look_done (seen_of lo hi t.path.items t.key.items r o)
 deed_at lo hi t stage = look_done (seen_of lo hi t.path.items t.key.items Past None)
 
 -- what it settles there: that this row stands in the table of looks
-abbrev pub Settles : List ℕ → Trail → LookStage → Cells → Type 0
+abbrev pub Settles : List ℕ → PathBuffer → LookStage → Cells → Type 0
 Settles lo t (Decided x r o) s = IsRow (heap_of s) lo t.path.items r (with_key t.key.items o)
 Settles lo t stage s = ⊤
 
@@ -198,7 +198,7 @@ pub record IsInKey (z : Sizes) (lo : List ℕ) (seen : LeafSeen) (i : ℕ) (q k 
   pub shows : Shows z v seen.stamp (λ s. SpellsKey s seen.stamp.cell lo q seen (8 * i) k)
 
 -- at each stage, of a pass that began with the view u and now has the view v
-abbrev pub StageFits : Sizes → List ℕ → KeyBound → ℕ → LookStage → Trail → View → View → Type 0
+abbrev pub StageFits : Sizes → List ℕ → KeyBound → ℕ → LookStage → PathBuffer → View → View → Type 0
 StageFits z lo hi depth Start t u v = IsReading u v
 StageFits z lo hi depth (Anchor x) t u v = IsReading u v × HasStamp z v x × (x.cell ≡ cell.Anchor)
 StageFits z lo hi depth (Child x d) t u v = IsReading u v × IsNamed z lo depth x d t.path.items v
@@ -218,5 +218,5 @@ StageFits z lo hi depth (Decided x r o) t u v = IsReading u v × (depth ≤ 64) 
 StageFits z lo hi depth (Ended r o) t u v = MakesEvent u v (look_done (seen_of lo hi t.path.items t.key.items r o)) × OnlyTells u v ×
     Stood z lo t.path.items t.key.items r o × (depth ≤ 64)
 
-abbrev pub Fits : Sizes → List ℕ → KeyBound → Look → Trail → View → View → Type 0
+abbrev pub Fits : Sizes → List ℕ → KeyBound → Look → PathBuffer → View → View → Type 0
 Fits z lo hi m t u v = StageFits z lo hi m.depth m.stage t u v

@@ -9,7 +9,7 @@ use Rattle.art_look.specs.Looks.{has_ended}
 use Rattle.art_look.specs.declared.looks.Look.{Look}
 use Rattle.art_look.specs.declared.looks.LookStage.{LookStage}
 use Rattle.art_look.specs.declared.looks.LookStage.TheVariants.{Decided}
-use Rattle.art_look.specs.declared.trails.Trail.{Trail}
+use Rattle.art_look.specs.declared.path_buffers.PathBuffer.{PathBuffer}
 use Rattle.art_step.specs.declared.views.Sizes.{Sizes}
 use Rattle.art_step.specs.declared.views.View.{View}
 
@@ -35,7 +35,7 @@ IsToSettle (Decided x reach value) = ⊤
 IsToSettle stage = ⊥
 
 -- some look from lo on has come to this
-abbrev pub IsUnderWay : Sizes → List ℕ → View → Look → Trail → Tally → Type 0
+abbrev pub IsUnderWay : Sizes → List ℕ → View → Look → PathBuffer → Tally → Type 0
 IsUnderWay z lo v m t c = (hi : KeyBound) × (u : View) × LookFits z lo hi u v m t c.restarts
 
 -- a turn is left, and a restart can be counted
@@ -44,7 +44,7 @@ pub record HasTurn (c : Tally) : Type 0 where
   pub few : c.restarts + c.left ≤ 4294967295
 
 -- one step more was made of a look, and counted, which settled nothing: each look that had come to the one has come to the other
-pub record HasGone (z : Sizes) (lo : List ℕ) (v : View) (m : Look) (t : Trail) (c : Tally) (w : View) (m' : Look) (t' : Trail) (c' : Tally) : Type 0 where
+pub record HasGone (z : Sizes) (lo : List ℕ) (v : View) (m : Look) (t : PathBuffer) (c : Tally) (w : View) (m' : Look) (t' : PathBuffer) (c' : Tally) : Type 0 where
   pub going : has_ended m'.stage ≡ false
   pub left : c'.left + 1 ≡ c.left
   pub few : c'.restarts + c'.left ≤ c.restarts + c.left

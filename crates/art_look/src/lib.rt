@@ -9,7 +9,7 @@
 //! # A look
 //!
 //! `Look` is a machine as the `Descent` of `art_find` is: a value of scalars, with `next`, which names the step that it asks
-//! for, and `told`, which hands it the answer. Beside it stand the two ends of the range and the `Trail`, which has the bytes that
+//! for, and `told`, which hands it the answer. Beside it stand the two ends of the range and the `PathBuffer`, which has the bytes that
 //! it has read: the path to where it stands, and a leaf's key.
 //!
 //! ```text
@@ -41,7 +41,7 @@
 //! # What it knows
 //!
 //! As of a descent: `Fits` says at each stage what the notes under the stamps show, in every tree in which they hold, and of which
-//! bytes the trail is made (`specs/Looks.antt`, `specs/Trails.antt`). Words that are of no node (a prefix that is too long, a key
+//! bytes the path buffer is made (`specs/Looks.antt`, `specs/PathBuffers.antt`). Words that are of no node (a prefix that is too long, a key
 //! byte whose child word is 0) end the look at a check, which fails.
 //!
 //! # How many steps
@@ -52,11 +52,11 @@
 
 mod fronts;
 mod looks;
+mod path_buffers;
 mod reads;
 mod straight;
-mod trails;
 
 pub use fronts::Front;
 pub use looks::{ChildSought, Look, LookStage, Reach, Reached, Seen};
+pub use path_buffers::PathBuffer;
 pub use straight::look_on;
-pub use trails::Trail;

@@ -9,9 +9,9 @@ ghost use Rattle.art_look.specs.Seen.{bound_at, nearer, row_within};
 ghost use Rattle.art_look.specs.Table.{end_at};
 ghost use Rattle.art_step.specs.Deeds.{key_of};
 
-use crate::Trail;
+use crate::PathBuffer;
 use crate::fronts::Front;
-use crate::trails::copied;
+use crate::path_buffers::copied;
 use art_cell::{Cell, Link, Node};
 use art_find::{LeafSeen, NodeSeen};
 use art_key::{Bound, Key};
@@ -28,7 +28,7 @@ pub enum Reach {
     UpTo,
 }
 
-/// How far a look has seen, and the value of the leaf that it found, if it found one. What was read of both stands in the trail.
+/// How far a look has seen, and the value of the leaf that it found, if it found one. What was read of both stands in the path buffer.
 #[derive(Clone, Copy)]
 pub struct Reached {
     pub reach: Reach,
@@ -54,29 +54,66 @@ pub enum LookStage {
     /// The anchor is stamped.
     Anchor(Stamp),
     /// The stamp's cell names this, to which the path leads.
-    Child(Stamp, Link),
+    Child {
+        stamp: Stamp,
+        link: Link,
+    },
     /// A cell that was checked names this node.
-    Below(Stamp, Node),
+    Below {
+        above: Stamp,
+        node: Node,
+    },
     /// The cell and the node are stamped.
-    Both(Stamp, Stamp, Node),
+    Both {
+        above: Stamp,
+        stamp: Stamp,
+        node: Node,
+    },
     /// The node was stamped while the cell above it named it.
-    Header(Stamp, Node),
+    Header {
+        stamp: Stamp,
+        node: Node,
+    },
     /// The word of the prefix with this number comes next.
-    Prefix(NodeSeen, u8),
+    Prefix {
+        seen: NodeSeen,
+        number: u8,
+    },
     /// The word of key bytes, or of the index, with this number comes next.
-    Keys(NodeSeen, Front, u8),
+    Keys {
+        seen: NodeSeen,
+        front: Front,
+        number: u8,
+    },
     /// The child word comes next.
     Slot(ChildSought),
     /// The stamp's cell names this leaf; its value comes next.
-    Value(Stamp, u32),
+    Value {
+        stamp: Stamp,
+        leaf: u32,
+    },
     /// Its value is this; its length comes next.
-    Length(Stamp, u32, u64),
+    Length {
+        stamp: Stamp,
+        leaf: u32,
+        value: u64,
+    },
     /// The word of the leaf's key with this number comes next.
-    Bytes(LeafSeen, u8),
+    Bytes {
+        seen: LeafSeen,
+        number: u8,
+    },
     /// What was read under the stamp shows what there is up to here: a leaf with this value, or none.
-    Decided(Stamp, Reach, Option<u64>),
+    Decided {
+        stamp: Stamp,
+        reach: Reach,
+        value: Option<u64>,
+    },
     /// That is settled.
-    Ended(Reach, Option<u64>),
+    Ended {
+        reach: Reach,
+        value: Option<u64>,
+    },
 }
 
 /// What a look has seen: at one step the rows from `lo` on, before `hi`, were exactly this one, or none.
@@ -87,11 +124,11 @@ pub struct Seen {
     pub row: Option<(Key, u64)>,
 }
 
-/// A look of a range, whose ends and trail stand beside it: from the anchor down to the first leaf from the lower end on, or to
+/// A look of a range, whose ends and path buffer stand beside it: from the anchor down to the first leaf from the lower end on, or to
 /// where it is seen that there is none up to some path.
 #[derive(Clone, Copy)]
 pub struct Look {
-    /// How many bytes lead to the cell where it stands; the trail may have more.
+    /// How many bytes lead to the cell where it stands; the path buffer may have more.
     pub(crate) depth: usize,
     pub(crate) stage: LookStage,
 }
@@ -103,7 +140,7 @@ impl Look {
     ghost use Rattle.art_machine.specs.declared.actions.Answer.TheVariants as told;
     ghost use Rattle.art_machine.specs.declared.actions.Action.{Action as ActionOf};
     ghost use Rattle.art_look.specs.Looks.{Fits, IsSettling, Settles, asks, deed_at, has_ended, least_steps, most_steps, reached_at};
-    ghost use Rattle.art_look.specs.declared.trails.Trail.{Trail as Trailed};
+    ghost use Rattle.art_look.specs.declared.path_buffers.PathBuffer.{PathBuffer as PathBufferOf};
     ghost use Rattle.art_step.specs.declared.views.Sizes.{Sizes};
     ghost use Rattle.art_step.specs.declared.views.View.{View};
     ghost use Rattle.std.specs.Prelude.{Some, IfSome, true, false};
@@ -112,7 +149,7 @@ impl Look {
     pub fn new() -> Look
         ensures steps { (most_steps result.depth result.stage ≡ 0) × (least_steps result.stage ≡ 0) }
         ensures going { has_ended result.stage ≡ false }
-        ensures fits { (z : Sizes) (lo : List ℕ) (hi : KeyBound) (t : Trailed) (u v : View) → IsReading u v → Fits z lo hi result t u v }
+        ensures fits { (z : Sizes) (lo : List ℕ) (hi : KeyBound) (t : PathBufferOf) (u v : View) → IsReading u v → Fits z lo hi result t u v }
     {
         Look {
             depth: 0,
@@ -124,25 +161,25 @@ impl Look {
     #[inline(always)]
     pub fn next(&self) -> Option<Action>
         ensures asks { result ≡ asks self.now.stage }
-        ensures allowed { (z : Sizes) (lo : List ℕ) (hi : KeyBound) (t : Trailed) (u v : View) → Fits z lo hi self.now t u v →
+        ensures allowed { (z : Sizes) (lo : List ℕ) (hi : KeyBound) (t : PathBufferOf) (u v : View) → Fits z lo hi self.now t u v →
             IfSome result (MayLook z (Settles lo t self.now.stage) v) }
     {
         match self.stage {
             LookStage::Start => Some(Action::Begin { cell: Cell::Anchor }),
             LookStage::Anchor(stamp) => Some(Action::Read { stamp, place: 1 }),
-            LookStage::Child(stamp, _) => Some(Action::Check { stamp }),
-            LookStage::Below(_, node) => Some(Action::Begin {
+            LookStage::Child { stamp, .. } => Some(Action::Check { stamp }),
+            LookStage::Below { node, .. } => Some(Action::Begin {
                 cell: Cell::Node(node),
             }),
-            LookStage::Both(above, _, _) => Some(Action::Check { stamp: above }),
-            LookStage::Header(stamp, _) => Some(Action::Read { stamp, place: 1 }),
-            LookStage::Prefix(seen, number) => {
+            LookStage::Both { above, .. } => Some(Action::Check { stamp: above }),
+            LookStage::Header { stamp, .. } => Some(Action::Read { stamp, place: 1 }),
+            LookStage::Prefix { seen, number } => {
                 Some(Action::Read {
                     stamp: seen.stamp,
                     place: 2 + usize::from(number),
                 })
             }
-            LookStage::Keys(seen, _, number) => {
+            LookStage::Keys { seen, number, .. } => {
                 Some(Action::Read {
                     stamp: seen.stamp,
                     place: 10 + usize::from(number),
@@ -152,23 +189,23 @@ impl Look {
                 stamp: sought.seen.stamp,
                 place: sought.place,
             }),
-            LookStage::Value(stamp, leaf) => Some(Action::ReadLeaf {
+            LookStage::Value { stamp, leaf } => Some(Action::ReadLeaf {
                 stamp,
                 leaf,
                 place: 0,
             }),
-            LookStage::Length(stamp, leaf, _) => Some(Action::ReadLeaf {
+            LookStage::Length { stamp, leaf, .. } => Some(Action::ReadLeaf {
                 stamp,
                 leaf,
                 place: 1,
             }),
-            LookStage::Bytes(seen, number) => Some(Action::ReadLeaf {
+            LookStage::Bytes { seen, number } => Some(Action::ReadLeaf {
                 stamp: seen.stamp,
                 leaf: seen.leaf,
                 place: 2 + usize::from(number),
             }),
-            LookStage::Decided(stamp, _, _) => Some(Action::Settle { stamp }),
-            LookStage::Ended(_, _) => None,
+            LookStage::Decided { stamp, .. } => Some(Action::Settle { stamp }),
+            LookStage::Ended { .. } => None,
         }
     }
 
@@ -176,7 +213,7 @@ impl Look {
     pub fn ended(&self) -> bool
         ensures { result ≡ has_ended self.now.stage }
     {
-        matches!(self.stage, LookStage::Ended(_, _))
+        matches!(self.stage, LookStage::Ended { .. })
     }
 
     /// How far it has seen: at the step that settles it, and once that is settled.
@@ -185,30 +222,30 @@ impl Look {
         ensures { result ≡ reached_at self.now.stage }
     {
         match self.stage {
-            LookStage::Decided(_, reach, value) => Some(Reached { reach, value }),
-            LookStage::Ended(reach, value) => Some(Reached { reach, value }),
+            LookStage::Decided { reach, value, .. } => Some(Reached { reach, value }),
+            LookStage::Ended { reach, value } => Some(Reached { reach, value }),
             _ => None,
         }
     }
 
-    /// The step that it asked for was made, with this answer. Whether it goes on: else it begins anew.
+    /// The step that it asked for was made, with this answer. Whether it goes on: else it restarts.
     #[inline(always)]
-    pub fn told(&mut self, lo: &[u8], trail: &mut Trail, answer: Answer) -> bool
+    pub fn told(&mut self, lo: &[u8], path_buffer: &mut PathBuffer, answer: Answer) -> bool
         requires fits { (z : Sizes) × (hi : KeyBound) × (u : View) × (v : View) × (w : View) × (asked : ActionOf) ×
-            Fits z lo.now hi self.old trail.old u v × (asks self.old.stage ≡ Some asked) ×
-            Answers z (telling (deed_at lo.now hi trail.old self.old.stage)) asked answer v w }
+            Fits z lo.now hi self.old path_buffer.old u v × (asks self.old.stage ≡ Some asked) ×
+            Answers z (telling (deed_at lo.now hi path_buffer.old self.old.stage)) asked answer v w }
         ensures on { result ≡ goes_on answer }
         ensures going { has_ended self.new.stage ≡ true → IsSettling self.old.stage }
         ensures steps { result ≡ true → most_steps self.old.depth self.old.stage < most_steps self.new.depth self.new.stage }
         ensures anew { result ≡ false → most_steps self.new.depth self.new.stage ≡ 0 }
         ensures least { least_steps self.new.stage ≤ least_steps self.old.stage + 1 }
         ensures fits { (z : Sizes) (hi : KeyBound) (u v w : View) (asked : ActionOf) →
-            Fits z lo.now hi self.old trail.old u v → asks self.old.stage ≡ Some asked →
-            Answers z (telling (deed_at lo.now hi trail.old self.old.stage)) asked answer v w → Fits z lo.now hi self.new trail.new u w }
+            Fits z lo.now hi self.old path_buffer.old u v → asks self.old.stage ≡ Some asked →
+            Answers z (telling (deed_at lo.now hi path_buffer.old self.old.stage)) asked answer v w → Fits z lo.now hi self.new path_buffer.new u w }
     {
         match answer {
             Answer::Begun { result: Ok(stamp) } => self.began(stamp),
-            Answer::Word { found } => self.read(lo, trail, found),
+            Answer::Word { found } => self.read(lo, path_buffer, found),
             Answer::Checked { result } => match result {
                 Ok(()) => self.checked(),
                 Err(_) => {
@@ -232,7 +269,7 @@ impl Look {
         ensures going { has_ended self.new.stage ≡ false }
         ensures steps { most_steps self.old.depth self.old.stage < most_steps self.new.depth self.new.stage }
         ensures least { least_steps self.new.stage ≤ least_steps self.old.stage + 1 }
-        ensures fits { (z : Sizes) (lo : List ℕ) (hi : KeyBound) (t : Trailed) (u v w : View) (asked : ActionOf) →
+        ensures fits { (z : Sizes) (lo : List ℕ) (hi : KeyBound) (t : PathBufferOf) (u v w : View) (asked : ActionOf) →
             Fits z lo hi self.old t u v → asks self.old.stage ≡ Some asked →
             Answers z (telling (deed_at lo hi t self.old.stage)) asked (told.Begun (Ok stamp)) v w → Fits z lo hi self.new t u w }
     {
@@ -247,13 +284,13 @@ impl Look {
         ensures going { has_ended self.new.stage ≡ false }
         ensures steps { most_steps self.old.depth self.old.stage < most_steps self.new.depth self.new.stage }
         ensures least { least_steps self.new.stage ≤ least_steps self.old.stage + 1 }
-        ensures fits { (z : Sizes) (lo : List ℕ) (hi : KeyBound) (t : Trailed) (u v w : View) (asked : ActionOf) →
+        ensures fits { (z : Sizes) (lo : List ℕ) (hi : KeyBound) (t : PathBufferOf) (u v w : View) (asked : ActionOf) →
             Fits z lo hi self.old t u v → asks self.old.stage ≡ Some asked →
             Answers z (telling (deed_at lo hi t self.old.stage)) asked (told.Begun (Ok stamp)) v w → Fits z lo hi self.new t u w }
     {
         self.stage = match stage {
             LookStage::Start => LookStage::Anchor(stamp),
-            LookStage::Below(above, node) => LookStage::Both(above, stamp, node),
+            LookStage::Below { above, node } => LookStage::Both { above, stamp, node },
             _ => unreachable!(),
         };
     }
@@ -265,7 +302,7 @@ impl Look {
         ensures going { has_ended self.new.stage ≡ true → IsSettling self.old.stage }
         ensures steps { most_steps self.old.depth self.old.stage < most_steps self.new.depth self.new.stage }
         ensures least { least_steps self.new.stage ≤ least_steps self.old.stage + 1 }
-        ensures fits { (z : Sizes) (lo : List ℕ) (hi : KeyBound) (t : Trailed) (u v w : View) (asked : ActionOf) →
+        ensures fits { (z : Sizes) (lo : List ℕ) (hi : KeyBound) (t : PathBufferOf) (u v w : View) (asked : ActionOf) →
             Fits z lo hi self.old t u v → asks self.old.stage ≡ Some asked →
             Answers z (telling (deed_at lo hi t self.old.stage)) asked (told.Checked (Ok tt)) v w → Fits z lo hi self.new t u w }
     {
@@ -280,25 +317,25 @@ impl Look {
         ensures going { has_ended self.new.stage ≡ true → IsSettling self.old.stage }
         ensures steps { most_steps self.old.depth self.old.stage < most_steps self.new.depth self.new.stage }
         ensures least { least_steps self.new.stage ≤ least_steps self.old.stage + 1 }
-        ensures fits { (z : Sizes) (lo : List ℕ) (hi : KeyBound) (t : Trailed) (u v w : View) (asked : ActionOf) →
+        ensures fits { (z : Sizes) (lo : List ℕ) (hi : KeyBound) (t : PathBufferOf) (u v w : View) (asked : ActionOf) →
             Fits z lo hi self.old t u v → asks self.old.stage ≡ Some asked →
             Answers z (telling (deed_at lo hi t self.old.stage)) asked (told.Checked (Ok tt)) v w → Fits z lo hi self.new t u w }
     {
         self.stage = match stage {
-            LookStage::Child(stamp, link) => below(stamp, link),
-            LookStage::Both(_, stamp, node) => LookStage::Header(stamp, node),
-            LookStage::Decided(_, reach, value) => LookStage::Ended(reach, value),
+            LookStage::Child { stamp, link } => below(stamp, link),
+            LookStage::Both { stamp, node, .. } => LookStage::Header { stamp, node },
+            LookStage::Decided { reach, value, .. } => LookStage::Ended { reach, value },
             _ => unreachable!(),
         };
     }
 
-    /// A version word was locked, obsolete or changed: the look begins anew.
+    /// A version word was locked, obsolete or changed: the look restarts.
     #[inline(always)]
     pub fn failed(&mut self)
         ensures start { self.new ≡ record self.old { stage = lookstages.Start } }
         ensures steps { most_steps self.new.depth self.new.stage ≡ 0 }
         ensures least { least_steps self.new.stage ≡ 0 }
-        ensures fits { (z : Sizes) (lo : List ℕ) (hi : KeyBound) (t : Trailed) (u v : View) → IsReading u v → Fits z lo hi self.new t u v }
+        ensures fits { (z : Sizes) (lo : List ℕ) (hi : KeyBound) (t : PathBufferOf) (u v : View) → IsReading u v → Fits z lo hi self.new t u v }
     {
         self.stage = LookStage::Start;
     }
@@ -310,27 +347,25 @@ fn below(stamp: Stamp, link: Link) -> LookStage
     ensures { result ≡ stage_below stamp link }
 {
     match link {
-        Link::Leaf(leaf) => LookStage::Value(stamp, leaf),
-        Link::Node(node) => LookStage::Below(stamp, node),
+        Link::Leaf(leaf) => LookStage::Value { stamp, leaf },
+        Link::Node(node) => LookStage::Below { above: stamp, node },
     }
 }
 
 impl Reached {
     ghost use Rattle.art_look.specs.Looks.{seen_to};
 
-    /// What was seen of the range from the key on, before the bound, with the trail's path and key. It is made once, where it is wanted:
+    /// What was seen of the range from the key on, before the bound, with the path buffer's path and key. It is made once, where it is wanted:
     /// it has room for three keys, and is not handed on.
     #[inline(always)]
-    pub fn seen(self, lo: &[u8], hi: &Bound, trail: &Trail) -> Seen
+    pub fn seen(self, lo: &[u8], hi: &Bound, path_buffer: &PathBuffer) -> Seen
         requires { length lo.now ≤ 64 }
-        ensures { result ≡ seen_to lo.now hi.now trail.now self }
+        ensures { result ≡ seen_to lo.now hi.now path_buffer.now self }
     {
         Seen {
             lo: copied(lo),
-            hi: nearer(end_at(self.reach, trail.path.as_slice()), hi),
-            row: self
-                .value
-                .and_then(|value| row_within(lo, hi, trail.key.as_slice(), value)),
+            hi: nearer(end_at(self.reach, path_buffer.path.as_slice()), hi),
+            row: self.value.and_then(|value| row_within(lo, hi, path_buffer.key.as_slice(), value)),
         }
     }
 }

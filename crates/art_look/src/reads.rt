@@ -5,8 +5,8 @@ ghost use Rattle.art_look.specs.Fronts.{IsFront, is_within};
 ghost use Rattle.art_look.specs.Looks.{next_child, staged};
 
 use crate::fronts::{Front, front_of, low_at};
-use crate::trails::spell;
-use crate::{ChildSought, Look, LookStage, Reach, Trail};
+use crate::path_buffers::spell;
+use crate::{ChildSought, Look, LookStage, PathBuffer, Reach};
 use art_cell::{Layout, Link, Node};
 use art_find::{LeafSeen, NodeSeen};
 use art_key::Key;
@@ -24,7 +24,7 @@ impl Look {
     ghost use Rattle.art_machine.specs.declared.actions.Action.{Action as ActionOf};
     ghost use Rattle.art_look.specs.Fronts.{low_at};
     ghost use Rattle.art_look.specs.Looks.{Fits, IsSought, asks, deed_at, has_ended, least_steps, most_steps};
-    ghost use Rattle.art_look.specs.Trails.{HasFirstValue, SeeksChild, SeeksKeys, SpellsKey, SpellsPath, SpellsPrefix, SpellsWords};
+    ghost use Rattle.art_look.specs.PathBuffers.{HasFirstValue, SeeksChild, SeeksKeys, SpellsKey, SpellsPath, SpellsPrefix, SpellsWords};
     ghost use Rattle.art_step.specs.Shows.{HasStamp, Shows};
     ghost use Rattle.art_step.specs.declared.views.Sizes.{Sizes};
     ghost use Rattle.art_step.specs.declared.views.View.{View};
@@ -34,39 +34,45 @@ impl Look {
 
     /// The word that it asked for is this.
     #[inline(always)]
-    pub fn read(&mut self, lo: &[u8], trail: &mut Trail, word: u64)
+    pub fn read(&mut self, lo: &[u8], path_buffer: &mut PathBuffer, word: u64)
         requires wants { WantsWord (asks self.old.stage) }
-        requires fits { (z : Sizes) × (hi : KeyBound) × (u : View) × (v : View) × Fits z lo.now hi self.old trail.old u v }
+        requires fits { (z : Sizes) × (hi : KeyBound) × (u : View) × (v : View) × Fits z lo.now hi self.old path_buffer.old u v }
         ensures going { has_ended self.new.stage ≡ false }
         ensures steps { most_steps self.old.depth self.old.stage < most_steps self.new.depth self.new.stage }
         ensures least { least_steps self.new.stage ≤ least_steps self.old.stage + 1 }
         ensures fits { (z : Sizes) (hi : KeyBound) (u v w : View) (asked : ActionOf) →
-            Fits z lo.now hi self.old trail.old u v → asks self.old.stage ≡ Some asked →
-            Answers z (telling (deed_at lo.now hi trail.old self.old.stage)) asked (told.Word word) v w → Fits z lo.now hi self.new trail.new u w }
+            Fits z lo.now hi self.old path_buffer.old u v → asks self.old.stage ≡ Some asked →
+            Answers z (telling (deed_at lo.now hi path_buffer.old self.old.stage)) asked (told.Word word) v w → Fits z lo.now hi self.new path_buffer.new u w }
     {
-        self.read_at(self.stage, lo, trail, word);
+        self.read_at(self.stage, lo, path_buffer, word);
     }
 
     /// The word that it asked for, where it stood at this stage, is this.
     #[inline(always)]
-    pub(crate) fn read_at(&mut self, stage: LookStage, lo: &[u8], trail: &mut Trail, word: u64)
+    pub(crate) fn read_at(
+        &mut self,
+        stage: LookStage,
+        lo: &[u8],
+        path_buffer: &mut PathBuffer,
+        word: u64,
+    )
         requires at { self.old.stage ≡ stage }
         requires wants { WantsWord (asks stage) }
-        requires fits { (z : Sizes) × (hi : KeyBound) × (u : View) × (v : View) × Fits z lo.now hi self.old trail.old u v }
+        requires fits { (z : Sizes) × (hi : KeyBound) × (u : View) × (v : View) × Fits z lo.now hi self.old path_buffer.old u v }
         ensures going { has_ended self.new.stage ≡ false }
         ensures steps { most_steps self.old.depth self.old.stage < most_steps self.new.depth self.new.stage }
         ensures least { least_steps self.new.stage ≤ least_steps self.old.stage + 1 }
         ensures fits { (z : Sizes) (hi : KeyBound) (u v w : View) (asked : ActionOf) →
-            Fits z lo.now hi self.old trail.old u v → asks self.old.stage ≡ Some asked →
-            Answers z (telling (deed_at lo.now hi trail.old self.old.stage)) asked (told.Word word) v w → Fits z lo.now hi self.new trail.new u w }
+            Fits z lo.now hi self.old path_buffer.old u v → asks self.old.stage ≡ Some asked →
+            Answers z (telling (deed_at lo.now hi path_buffer.old self.old.stage)) asked (told.Word word) v w → Fits z lo.now hi self.new path_buffer.new u w }
     {
         match stage {
-            LookStage::Anchor(stamp) => self.see_root(trail, stamp, word),
-            LookStage::Header(stamp, node) => {
+            LookStage::Anchor(stamp) => self.see_root(path_buffer, stamp, word),
+            LookStage::Header { stamp, node } => {
                 let header = word;
                 self.see_header(
                     lo,
-                    trail,
+                    path_buffer,
                     NodeSeen {
                         stamp,
                         node,
@@ -74,100 +80,134 @@ impl Look {
                     },
                 )
             }
-            LookStage::Prefix(seen, number) => self.see_prefix(lo, trail, seen, number, word),
-            LookStage::Keys(seen, front, number) => {
-                self.see_keys(lo, trail, seen, front, number, word)
+            LookStage::Prefix { seen, number } => self.see_prefix(
+                lo,
+                path_buffer,
+                seen,
+                number,
+                word,
+            ),
+            LookStage::Keys {
+                seen,
+                front,
+                number,
+            } => { self.see_keys(lo, path_buffer, seen, front, number, word) }
+            LookStage::Slot(sought) => self.see_child(lo, path_buffer, sought, word),
+            LookStage::Value { stamp, leaf } => self.stage = LookStage::Length {
+                stamp,
+                leaf,
+                value: word,
+            },
+            LookStage::Length { stamp, leaf, value } => {
+                self.see_length(path_buffer, stamp, leaf, value, word)
             }
-            LookStage::Slot(sought) => self.see_child(lo, trail, sought, word),
-            LookStage::Value(stamp, leaf) => self.stage = LookStage::Length(stamp, leaf, word),
-            LookStage::Length(stamp, leaf, value) => {
-                self.see_length(trail, stamp, leaf, value, word)
-            }
-            LookStage::Bytes(seen, number) => self.see_bytes(trail, seen, number, word),
+            LookStage::Bytes { seen, number } => self.see_bytes(path_buffer, seen, number, word),
             _ => unreachable!(),
         }
     }
 
     /// The anchor's child word was read.
     #[inline(always)]
-    fn see_root(&mut self, trail: &mut Trail, stamp: Stamp, word: u64)
+    fn see_root(&mut self, path_buffer: &mut PathBuffer, stamp: Stamp, word: u64)
         ensures steps { 1 < most_steps self.new.depth self.new.stage }
         ensures least { least_steps self.new.stage ≤ 2 }
         ensures fits { (z : Sizes) (lo : List ℕ) (hi : KeyBound) (u w : View) → IsReading u w → HasStamp z w stamp →
             stamp.cell ≡ cells.Anchor → Shows z w stamp (λ s. s cells.Anchor 1 ≡ word) → WasNoted w stamp word →
-            Fits z lo hi self.new trail.new u w }
+            Fits z lo hi self.new path_buffer.new u w }
     {
         // a new key is a few moves, where `clear` overwrites the bytes by a call
-        trail.path = Key::new();
+        path_buffer.path = Key::new();
         self.depth = 0;
         self.stage = match Link::named_by(word) {
-            Some(link) => LookStage::Child(stamp, link),
-            None => LookStage::Decided(stamp, Reach::Past, None),
+            Some(link) => LookStage::Child { stamp, link },
+            None => LookStage::Decided {
+                stamp,
+                reach: Reach::Past,
+                value: None,
+            },
         };
     }
 
     /// The header of a node was read.
     #[inline(always)]
-    fn see_header(&mut self, lo: &[u8], trail: &mut Trail, seen: NodeSeen)
+    fn see_header(&mut self, lo: &[u8], path_buffer: &mut PathBuffer, seen: NodeSeen)
         requires few { self.old.depth ≤ 64 }
-        requires long { length trail.old.path.items ≡ self.old.depth }
-        requires front { Begins trail.old.path.items lo.now }
+        requires long { length path_buffer.old.path.items ≡ self.old.depth }
+        requires front { Begins path_buffer.old.path.items lo.now }
         ensures steps { 320 * self.old.depth + 5 < most_steps self.new.depth self.new.stage }
         ensures least { least_steps self.new.stage ≤ 2 }
         ensures fits { (z : Sizes) (hi : KeyBound) (u w : View) → IsOn z u w seen.stamp seen.node →
-            Shows z w seen.stamp (λ s. SpellsPrefix s seen.node trail.old.path.items seen.header 0 trail.old.path.items) →
-            Fits z lo.now hi self.new trail.new u w }
+            Shows z w seen.stamp (λ s. SpellsPrefix s seen.node path_buffer.old.path.items seen.header 0 path_buffer.old.path.items) →
+            Fits z lo.now hi self.new path_buffer.new u w }
     {
         let count = read_header(seen.header).prefix_length;
         if self.depth + count > 63 {
-            self.stage = LookStage::Decided(seen.stamp, Reach::Past, None);
+            self.stage = LookStage::Decided {
+                stamp: seen.stamp,
+                reach: Reach::Past,
+                value: None,
+            };
         } else if count > 0 {
-            self.stage = LookStage::Prefix(seen, 0);
+            self.stage = LookStage::Prefix { seen, number: 0 };
         } else {
-            self.pass(lo, trail, seen)
+            self.pass(lo, path_buffer, seen)
         }
     }
 
     /// A word of the prefix was read.
     #[inline(always)]
-    fn see_prefix(&mut self, lo: &[u8], trail: &mut Trail, seen: NodeSeen, number: u8, word: u64)
-        requires long { length trail.old.path.items ≡ self.old.depth + 8 * number }
+    fn see_prefix(
+        &mut self,
+        lo: &[u8],
+        path_buffer: &mut PathBuffer,
+        seen: NodeSeen,
+        number: u8,
+        word: u64,
+    )
+        requires long { length path_buffer.old.path.items ≡ self.old.depth + 8 * number }
         requires more { 8 * number < count_in seen.header }
         requires short { self.old.depth + count_in seen.header < 64 }
-        requires front { Begins (take self.old.depth trail.old.path.items) lo.now }
+        requires front { Begins (take self.old.depth path_buffer.old.path.items) lo.now }
         ensures steps { 320 * self.old.depth + 6 + number < most_steps self.new.depth self.new.stage }
         ensures least { least_steps self.new.stage ≤ 2 }
         ensures fits { (z : Sizes) (hi : KeyBound) (u w : View) → IsOn z u w seen.stamp seen.node →
-            Shows z w seen.stamp (λ s. SpellsWords s seen self.old.depth number trail.old.path.items) →
-            Shows z w seen.stamp (λ s. s (cells.Node seen.node) (2 + number) ≡ word) → Fits z lo.now hi self.new trail.new u w }
+            Shows z w seen.stamp (λ s. SpellsWords s seen self.old.depth number path_buffer.old.path.items) →
+            Shows z w seen.stamp (λ s. s (cells.Node seen.node) (2 + number) ≡ word) → Fits z lo.now hi self.new path_buffer.new u w }
     {
         let rest = read_header(seen.header).prefix_length - 8 * usize::from(number);
-        spell(&mut trail.path, word, rest.min(8));
+        spell(&mut path_buffer.path, word, rest.min(8));
         if rest > 8 {
-            self.stage = LookStage::Prefix(seen, number + 1);
+            self.stage = LookStage::Prefix {
+                seen,
+                number: number + 1,
+            };
         } else {
-            self.pass(lo, trail, seen)
+            self.pass(lo, path_buffer, seen)
         }
     }
 
     /// All bytes of the prefix were read.
     #[inline(always)]
-    fn pass(&mut self, lo: &[u8], trail: &mut Trail, seen: NodeSeen)
-        requires long { length trail.old.path.items ≡ self.old.depth + count_in seen.header }
+    fn pass(&mut self, lo: &[u8], path_buffer: &mut PathBuffer, seen: NodeSeen)
+        requires long { length path_buffer.old.path.items ≡ self.old.depth + count_in seen.header }
         requires short { self.old.depth + count_in seen.header < 64 }
-        requires front { Begins (take self.old.depth trail.old.path.items) lo.now }
+        requires front { Begins (take self.old.depth path_buffer.old.path.items) lo.now }
         ensures steps { 320 * self.old.depth + 13 < most_steps self.new.depth self.new.stage }
         ensures least { least_steps self.new.stage ≤ 2 }
         ensures fits { (z : Sizes) (hi : KeyBound) (u w : View) → IsOn z u w seen.stamp seen.node →
-            Shows z w seen.stamp (λ s. SpellsPath s seen.node (take self.old.depth trail.old.path.items) seen.header trail.old.path.items) →
-            Fits z lo.now hi self.new trail.new u w }
+            Shows z w seen.stamp (λ s. SpellsPath s seen.node (take self.old.depth path_buffer.old.path.items) seen.header path_buffer.old.path.items) →
+            Fits z lo.now hi self.new path_buffer.new u w }
     {
-        let Some(front) = front_of(lo, trail.path.as_slice()) else {
-            trail.path.truncate(self.depth);
-            self.stage = LookStage::Decided(seen.stamp, Reach::Past, None);
+        let Some(front) = front_of(lo, path_buffer.path.as_slice()) else {
+            path_buffer.path.truncate(self.depth);
+            self.stage = LookStage::Decided {
+                stamp: seen.stamp,
+                reach: Reach::Past,
+                value: None,
+            };
             return;
         };
-        let low = low_at(front, lo, trail.path.as_slice());
+        let low = low_at(front, lo, path_buffer.path.as_slice());
         self.stage = staged(
             first_word_from(seen.node.layout, low, seen.header),
             seen,
@@ -180,22 +220,22 @@ impl Look {
     fn see_keys(
         &mut self,
         lo: &[u8],
-        trail: &Trail,
+        path_buffer: &PathBuffer,
         seen: NodeSeen,
         front: Front,
         number: u8,
         word: u64,
     )
-        requires sought { IsSought lo.now self.old.depth trail.now.path.items front }
+        requires sought { IsSought lo.now self.old.depth path_buffer.now.path.items front }
         requires number { number < 32 }
         ensures steps { 320 * self.old.depth + 14 + number < most_steps self.new.depth self.new.stage }
         ensures least { least_steps self.new.stage ≤ 2 }
         ensures fits { (z : Sizes) (hi : KeyBound) (u w : View) → IsOn z u w seen.stamp seen.node →
-            Shows z w seen.stamp (λ s. SeeksKeys s seen.node (take self.old.depth trail.now.path.items) seen.header trail.now.path.items
-            (low_at front lo.now trail.now.path.items) number) →
-            Shows z w seen.stamp (λ s. s (cells.Node seen.node) (10 + number) ≡ word) → Fits z lo.now hi self.new trail.now u w }
+            Shows z w seen.stamp (λ s. SeeksKeys s seen.node (take self.old.depth path_buffer.now.path.items) seen.header path_buffer.now.path.items
+            (low_at front lo.now path_buffer.now.path.items) number) →
+            Shows z w seen.stamp (λ s. s (cells.Node seen.node) (10 + number) ≡ word) → Fits z lo.now hi self.new path_buffer.now u w }
     {
-        let low = low_at(front, lo, trail.path.as_slice());
+        let low = low_at(front, lo, path_buffer.path.as_slice());
         self.stage = staged(
             next_word_from(seen.node.layout, low, seen.header, number, word),
             seen,
@@ -205,101 +245,130 @@ impl Look {
 
     /// The child word was read.
     #[inline(always)]
-    fn see_child(&mut self, lo: &[u8], trail: &mut Trail, sought: ChildSought, word: u64)
-        requires sought { IsSought lo.now self.old.depth trail.old.path.items sought.front }
-        requires low { low_at sought.front lo.now trail.old.path.items ≤ sought.byte }
+    fn see_child(&mut self, lo: &[u8], path_buffer: &mut PathBuffer, sought: ChildSought, word: u64)
+        requires sought { IsSought lo.now self.old.depth path_buffer.old.path.items sought.front }
+        requires low { low_at sought.front lo.now path_buffer.old.path.items ≤ sought.byte }
         requires byte { sought.byte < 256 }
         ensures steps { 320 * self.old.depth + 46 + sought.byte < most_steps self.new.depth self.new.stage }
         ensures least { least_steps self.new.stage ≤ 2 }
         ensures fits { (z : Sizes) (hi : KeyBound) (u w : View) → IsOn z u w sought.seen.stamp sought.seen.node →
-            Shows z w sought.seen.stamp (λ s. SeeksChild s sought.seen.node (take self.old.depth trail.old.path.items) trail.old.path.items
-            (low_at sought.front lo.now trail.old.path.items) sought.byte sought.place) →
+            Shows z w sought.seen.stamp (λ s. SeeksChild s sought.seen.node (take self.old.depth path_buffer.old.path.items) path_buffer.old.path.items
+            (low_at sought.front lo.now path_buffer.old.path.items) sought.byte sought.place) →
             Shows z w sought.seen.stamp (λ s. s (cells.Node sought.seen.node) sought.place ≡ word) →
             WasNoted w sought.seen.stamp word →
-            Fits z lo.now hi self.new trail.new u w }
+            Fits z lo.now hi self.new path_buffer.new u w }
     {
         match Link::named_by(word) {
-            Some(link) => self.follow(lo, trail, sought, link),
+            Some(link) => self.follow(lo, path_buffer, sought, link),
             None => self.stage = next_child(sought),
         }
     }
 
     /// It names this.
     #[inline(always)]
-    fn follow(&mut self, lo: &[u8], trail: &mut Trail, sought: ChildSought, link: Link)
-        requires sought { IsSought lo.now self.old.depth trail.old.path.items sought.front }
-        requires low { low_at sought.front lo.now trail.old.path.items ≤ sought.byte }
+    fn follow(&mut self, lo: &[u8], path_buffer: &mut PathBuffer, sought: ChildSought, link: Link)
+        requires sought { IsSought lo.now self.old.depth path_buffer.old.path.items sought.front }
+        requires low { low_at sought.front lo.now path_buffer.old.path.items ≤ sought.byte }
         requires byte { sought.byte < 256 }
         ensures steps { 320 * self.old.depth + 301 < most_steps self.new.depth self.new.stage }
         ensures least { least_steps self.new.stage ≤ 2 }
         ensures fits { (z : Sizes) (hi : KeyBound) (u w : View) (word : ℕ) → IsOn z u w sought.seen.stamp sought.seen.node →
-            Shows z w sought.seen.stamp (λ s. SeeksChild s sought.seen.node (take self.old.depth trail.old.path.items) trail.old.path.items
-            (low_at sought.front lo.now trail.old.path.items) sought.byte sought.place) →
+            Shows z w sought.seen.stamp (λ s. SeeksChild s sought.seen.node (take self.old.depth path_buffer.old.path.items) path_buffer.old.path.items
+            (low_at sought.front lo.now path_buffer.old.path.items) sought.byte sought.place) →
             Shows z w sought.seen.stamp (λ s. s (cells.Node sought.seen.node) sought.place ≡ word) →
             WasNoted w sought.seen.stamp word →
-            link_of word ≡ Some link → Fits z lo.now hi self.new trail.new u w }
+            link_of word ≡ Some link → Fits z lo.now hi self.new path_buffer.new u w }
     {
         let goes_down = match link {
             Link::Leaf(_) => true,
-            Link::Node(_) => begins(sought, lo, trail.path.as_slice()),
+            Link::Node(_) => begins(sought, lo, path_buffer.path.as_slice()),
         };
-        trail.path.push(sought.byte);
+        path_buffer.path.push(sought.byte);
         if goes_down {
-            self.depth = trail.path.len();
-            self.stage = LookStage::Child(sought.seen.stamp, link);
+            self.depth = path_buffer.path.len();
+            self.stage = LookStage::Child {
+                stamp: sought.seen.stamp,
+                link,
+            };
         } else {
-            self.stage = LookStage::Decided(sought.seen.stamp, Reach::UpTo, None);
+            self.stage = LookStage::Decided {
+                stamp: sought.seen.stamp,
+                reach: Reach::UpTo,
+                value: None,
+            };
         }
     }
 
     /// The length of a leaf's key was read.
     #[inline(always)]
-    fn see_length(&mut self, trail: &mut Trail, stamp: Stamp, leaf: u32, value: u64, bytes: u64)
+    fn see_length(
+        &mut self,
+        path_buffer: &mut PathBuffer,
+        stamp: Stamp,
+        leaf: u32,
+        value: u64,
+        bytes: u64,
+    )
         requires few { self.old.depth ≤ 64 }
         ensures steps { 320 * self.old.depth + 4 < most_steps self.new.depth self.new.stage }
         ensures least { least_steps self.new.stage ≤ 2 }
         ensures fits { (z : Sizes) (lo : List ℕ) (hi : KeyBound) (u w : View) → IsAbove z u w stamp leaf →
-            Shows z w stamp (λ s. HasFirstValue s stamp.cell lo trail.old.path.items leaf value) →
-            Shows z w stamp (λ s. s (cells.Leaf leaf) 1 ≡ bytes) → Fits z lo hi self.new trail.new u w }
+            Shows z w stamp (λ s. HasFirstValue s stamp.cell lo path_buffer.old.path.items leaf value) →
+            Shows z w stamp (λ s. s (cells.Leaf leaf) 1 ≡ bytes) → Fits z lo hi self.new path_buffer.new u w }
     {
-        trail.key = Key::new();
+        path_buffer.key = Key::new();
         if bytes > 64 {
-            self.stage = LookStage::Decided(stamp, Reach::Past, None);
+            self.stage = LookStage::Decided {
+                stamp,
+                reach: Reach::Past,
+                value: None,
+            };
         } else if bytes > 0 {
             let count = bytes as usize;
-            self.stage = LookStage::Bytes(
-                LeafSeen {
+            self.stage = LookStage::Bytes {
+                seen: LeafSeen {
                     stamp,
                     leaf,
                     value,
                     count,
                 },
-                0,
-            );
+                number: 0,
+            };
         } else {
-            self.stage = LookStage::Decided(stamp, Reach::Past, Some(value));
+            self.stage = LookStage::Decided {
+                stamp,
+                reach: Reach::Past,
+                value: Some(value),
+            };
         }
     }
 
     /// A word of a leaf's key was read.
     #[inline(always)]
-    fn see_bytes(&mut self, trail: &mut Trail, seen: LeafSeen, number: u8, word: u64)
+    fn see_bytes(&mut self, path_buffer: &mut PathBuffer, seen: LeafSeen, number: u8, word: u64)
         requires few { self.old.depth ≤ 64 }
-        requires long { length trail.old.key.items ≡ 8 * number }
+        requires long { length path_buffer.old.key.items ≡ 8 * number }
         requires more { 8 * number < seen.count }
         requires short { seen.count ≤ 64 }
         ensures steps { 320 * self.old.depth + 5 + number < most_steps self.new.depth self.new.stage }
         ensures least { least_steps self.new.stage ≤ 2 }
         ensures fits { (z : Sizes) (lo : List ℕ) (hi : KeyBound) (u w : View) → IsAbove z u w seen.stamp seen.leaf →
-            Shows z w seen.stamp (λ s. SpellsKey s seen.stamp.cell lo trail.old.path.items seen (8 * number) trail.old.key.items) →
-            Shows z w seen.stamp (λ s. s (cells.Leaf seen.leaf) (2 + number) ≡ word) → Fits z lo hi self.new trail.new u w }
+            Shows z w seen.stamp (λ s. SpellsKey s seen.stamp.cell lo path_buffer.old.path.items seen (8 * number) path_buffer.old.key.items) →
+            Shows z w seen.stamp (λ s. s (cells.Leaf seen.leaf) (2 + number) ≡ word) → Fits z lo hi self.new path_buffer.new u w }
     {
         let rest = seen.count - 8 * usize::from(number);
-        spell(&mut trail.key, word, rest.min(8));
+        spell(&mut path_buffer.key, word, rest.min(8));
         if rest > 8 {
-            self.stage = LookStage::Bytes(seen, number + 1);
+            self.stage = LookStage::Bytes {
+                seen,
+                number: number + 1,
+            };
         } else {
-            self.stage = LookStage::Decided(seen.stamp, Reach::Past, Some(seen.value));
+            self.stage = LookStage::Decided {
+                stamp: seen.stamp,
+                reach: Reach::Past,
+                value: Some(seen.value),
+            };
         }
     }
 }
@@ -310,14 +379,22 @@ fn staged(sought: SoughtFrom, seen: NodeSeen, front: Front) -> LookStage
     ensures { result ≡ staged sought seen front }
 {
     match sought {
-        SoughtFrom::Keys(number) => LookStage::Keys(seen, front, number),
-        SoughtFrom::Child(place, byte) => LookStage::Slot(ChildSought {
+        SoughtFrom::Keys(number) => LookStage::Keys {
+            seen,
+            front,
+            number,
+        },
+        SoughtFrom::Child { place, byte } => LookStage::Slot(ChildSought {
             seen,
             front,
             byte,
             place,
         }),
-        SoughtFrom::Nothing => LookStage::Decided(seen.stamp, Reach::Past, None),
+        SoughtFrom::Nothing => LookStage::Decided {
+            stamp: seen.stamp,
+            reach: Reach::Past,
+            value: None,
+        },
     }
 }
 
@@ -327,7 +404,11 @@ fn next_child(sought: ChildSought) -> LookStage
     ensures { result ≡ next_child sought }
 {
     if sought.byte == 255 {
-        return LookStage::Decided(sought.seen.stamp, Reach::Past, None);
+        return LookStage::Decided {
+            stamp: sought.seen.stamp,
+            reach: Reach::Past,
+            value: None,
+        };
     }
     match sought.seen.node.layout {
         Layout::Node256 => LookStage::Slot(ChildSought {
@@ -336,7 +417,11 @@ fn next_child(sought: ChildSought) -> LookStage
             byte: sought.byte + 1,
             place: 11 + usize::from(sought.byte),
         }),
-        _ => LookStage::Decided(sought.seen.stamp, Reach::Past, None),
+        _ => LookStage::Decided {
+            stamp: sought.seen.stamp,
+            reach: Reach::Past,
+            value: None,
+        },
     }
 }
 

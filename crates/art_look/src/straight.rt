@@ -15,7 +15,7 @@ ghost use Rattle.art_key.specs.declared.bounds.Bound.{Bound as KeyBound};
 ghost use Rattle.art_look.specs.Driven.{LookFits};
 ghost use Rattle.art_look.specs.Looks.{Fits, asks, has_ended, least_steps, most_steps};
 ghost use Rattle.art_look.specs.Straight.{AsksLeaf, AsksVersion, AsksWord, HasGone, HasTurn, IsToSettle, IsUnderWay};
-ghost use Rattle.art_look.specs.declared.trails.Trail.{Trail as Trailed};
+ghost use Rattle.art_look.specs.declared.path_buffers.PathBuffer.{PathBuffer as PathBufferOf};
 ghost use Rattle.art_step.specs.Steps.Begin.{Outcome as Begun};
 ghost use Rattle.art_step.specs.Steps.Check.{Outcome as WasChecked};
 ghost use Rattle.art_step.specs.declared.deeds.Deed.{Deed};
@@ -23,7 +23,7 @@ ghost use Rattle.art_step.specs.declared.views.Sizes.{Sizes};
 ghost use Rattle.art_step.specs.declared.views.Stamp.{Stamp as StampOf};
 ghost use Rattle.art_step.specs.declared.views.View.{View};
 
-use crate::{Look, LookStage, Trail};
+use crate::{Look, LookStage, PathBuffer};
 use art_cell::Cell;
 use art_find::Tally;
 use art_step::{Changed, Locked, Stamp, Steps};
@@ -35,13 +35,13 @@ pub fn look_on<S: Steps>(
     tally: &mut Tally,
     look: &mut Look,
     lo: &[u8],
-    trail: &mut Trail,
+    path_buffer: &mut PathBuffer,
 )
     requires some { 0 < tally.old.left }
     requires few { tally.old.restarts + tally.old.left ≤ 4294967295 }
     requires going { has_ended look.old.stage ≡ false }
     requires fits { (hi : KeyBound) × (u : View) ×
-        LookFits (S.sizes steps.old) lo.now hi u (S.view steps.old) look.old trail.old tally.old.restarts }
+        LookFits (S.sizes steps.old) lo.now hi u (S.view steps.old) look.old path_buffer.old tally.old.restarts }
     ensures only { S.only steps.old steps.new }
     ensures some { 0 < tally.new.left }
     ensures less { tally.new.left ≤ tally.old.left }
@@ -50,20 +50,20 @@ pub fn look_on<S: Steps>(
     ensures going { has_ended look.new.stage ≡ false }
     ensures there { IsToSettle look.new.stage ⊎ (tally.new.left ≡ 1) }
     ensures fits { (hi : KeyBound) (u : View) →
-        LookFits (S.sizes steps.old) lo.now hi u (S.view steps.old) look.old trail.old tally.old.restarts →
-        LookFits (S.sizes steps.old) lo.now hi u (S.view steps.new) look.new trail.new tally.new.restarts }
+        LookFits (S.sizes steps.old) lo.now hi u (S.view steps.old) look.old path_buffer.old tally.old.restarts →
+        LookFits (S.sizes steps.old) lo.now hi u (S.view steps.new) look.new path_buffer.new tally.new.restarts }
 {
     while tally.left > 1 {
         match look.stage {
             LookStage::Start
-            | LookStage::Below(_, _)
-            | LookStage::Child(_, _)
-            | LookStage::Both(_, _, _) => begin_or_check(steps, tally, look),
-            LookStage::Value(_, _) | LookStage::Length(_, _, _) | LookStage::Bytes(_, _) => {
-                read_leaf(steps, tally, look, lo, trail)
+            | LookStage::Below { .. }
+            | LookStage::Child { .. }
+            | LookStage::Both { .. } => begin_or_check(steps, tally, look),
+            LookStage::Value { .. } | LookStage::Length { .. } | LookStage::Bytes { .. } => {
+                read_leaf(steps, tally, look, lo, path_buffer)
             }
-            LookStage::Decided(_, _, _) | LookStage::Ended(_, _) => return,
-            _ => read(steps, tally, look, lo, trail),
+            LookStage::Decided { .. } | LookStage::Ended { .. } => return,
+            _ => read(steps, tally, look, lo, path_buffer),
         }
     }
 }
@@ -73,9 +73,9 @@ pub fn look_on<S: Steps>(
 fn begin_or_check<S: Steps>(steps: &mut S, tally: &mut Tally, look: &mut Look)
     requires turn { HasTurn tally.old }
     requires version { AsksVersion (asks look.old.stage) }
-    requires looks { (lo : List ℕ) × (t : Trailed) × IsUnderWay (S.sizes steps.old) lo (S.view steps.old) look.old t tally.old }
+    requires looks { (lo : List ℕ) × (t : PathBufferOf) × IsUnderWay (S.sizes steps.old) lo (S.view steps.old) look.old t tally.old }
     ensures only { S.only steps.old steps.new }
-    ensures gone { (lo : List ℕ) (t : Trailed) → HasGone (S.sizes steps.old) lo (S.view steps.old) look.old t tally.old
+    ensures gone { (lo : List ℕ) (t : PathBufferOf) → HasGone (S.sizes steps.old) lo (S.view steps.old) look.old t tally.old
         (S.view steps.new) look.new t tally.new }
 {
     match look.stage {
@@ -83,17 +83,17 @@ fn begin_or_check<S: Steps>(steps: &mut S, tally: &mut Tally, look: &mut Look)
             let begun = steps.begin(Cell::Anchor);
             hear_begun(tally, look, LookStage::Start, begun);
         }
-        LookStage::Below(above, node) => {
+        LookStage::Below { above, node } => {
             let begun = steps.begin(Cell::Node(node));
-            hear_begun(tally, look, LookStage::Below(above, node), begun);
+            hear_begun(tally, look, LookStage::Below { above, node }, begun);
         }
-        LookStage::Child(stamp, link) => {
+        LookStage::Child { stamp, link } => {
             let checked = steps.check(stamp, None);
-            hear_checked(tally, look, LookStage::Child(stamp, link), checked);
+            hear_checked(tally, look, LookStage::Child { stamp, link }, checked);
         }
-        LookStage::Both(above, stamp, node) => {
+        LookStage::Both { above, stamp, node } => {
             let checked = steps.check(above, None);
-            hear_checked(tally, look, LookStage::Both(above, stamp, node), checked);
+            hear_checked(tally, look, LookStage::Both { above, stamp, node }, checked);
         }
         _ => unreachable!(),
     }
@@ -101,36 +101,57 @@ fn begin_or_check<S: Steps>(steps: &mut S, tally: &mut Tally, look: &mut Look)
 
 /// Reads the word of a cell that comes next, and hears it.
 #[inline(always)]
-fn read<S: Steps>(steps: &mut S, tally: &mut Tally, look: &mut Look, lo: &[u8], trail: &mut Trail)
+fn read<S: Steps>(
+    steps: &mut S,
+    tally: &mut Tally,
+    look: &mut Look,
+    lo: &[u8],
+    path_buffer: &mut PathBuffer,
+)
     requires turn { HasTurn tally.old }
     requires word { AsksWord (asks look.old.stage) }
-    requires looks { IsUnderWay (S.sizes steps.old) lo.now (S.view steps.old) look.old trail.old tally.old }
+    requires looks { IsUnderWay (S.sizes steps.old) lo.now (S.view steps.old) look.old path_buffer.old tally.old }
     ensures only { S.only steps.old steps.new }
-    ensures gone { HasGone (S.sizes steps.old) lo.now (S.view steps.old) look.old trail.old tally.old
-        (S.view steps.new) look.new trail.new tally.new }
+    ensures gone { HasGone (S.sizes steps.old) lo.now (S.view steps.old) look.old path_buffer.old tally.old
+        (S.view steps.new) look.new path_buffer.new tally.new }
 {
     match look.stage {
         LookStage::Anchor(stamp) => {
             let word = steps.read(stamp, 1);
-            hear_word(tally, look, lo, trail, LookStage::Anchor(stamp), word);
+            hear_word(tally, look, lo, path_buffer, LookStage::Anchor(stamp), word);
         }
-        LookStage::Header(stamp, node) => {
+        LookStage::Header { stamp, node } => {
             let word = steps.read(stamp, 1);
-            hear_word(tally, look, lo, trail, LookStage::Header(stamp, node), word);
+            hear_word(
+                tally,
+                look,
+                lo,
+                path_buffer,
+                LookStage::Header { stamp, node },
+                word,
+            );
         }
-        LookStage::Prefix(seen, number) => {
+        LookStage::Prefix { seen, number } => {
             let word = steps.read(seen.stamp, 2 + usize::from(number));
-            let stage = LookStage::Prefix(seen, number);
-            hear_word(tally, look, lo, trail, stage, word);
+            let stage = LookStage::Prefix { seen, number };
+            hear_word(tally, look, lo, path_buffer, stage, word);
         }
-        LookStage::Keys(seen, front, number) => {
+        LookStage::Keys {
+            seen,
+            front,
+            number,
+        } => {
             let word = steps.read(seen.stamp, 10 + usize::from(number));
-            let stage = LookStage::Keys(seen, front, number);
-            hear_word(tally, look, lo, trail, stage, word);
+            let stage = LookStage::Keys {
+                seen,
+                front,
+                number,
+            };
+            hear_word(tally, look, lo, path_buffer, stage, word);
         }
         LookStage::Slot(sought) => {
             let word = steps.read(sought.seen.stamp, sought.place);
-            hear_word(tally, look, lo, trail, LookStage::Slot(sought), word);
+            hear_word(tally, look, lo, path_buffer, LookStage::Slot(sought), word);
         }
         _ => unreachable!(),
     }
@@ -143,28 +164,42 @@ fn read_leaf<S: Steps>(
     tally: &mut Tally,
     look: &mut Look,
     lo: &[u8],
-    trail: &mut Trail,
+    path_buffer: &mut PathBuffer,
 )
     requires turn { HasTurn tally.old }
     requires leaf { AsksLeaf (asks look.old.stage) }
-    requires looks { IsUnderWay (S.sizes steps.old) lo.now (S.view steps.old) look.old trail.old tally.old }
+    requires looks { IsUnderWay (S.sizes steps.old) lo.now (S.view steps.old) look.old path_buffer.old tally.old }
     ensures only { S.only steps.old steps.new }
-    ensures gone { HasGone (S.sizes steps.old) lo.now (S.view steps.old) look.old trail.old tally.old
-        (S.view steps.new) look.new trail.new tally.new }
+    ensures gone { HasGone (S.sizes steps.old) lo.now (S.view steps.old) look.old path_buffer.old tally.old
+        (S.view steps.new) look.new path_buffer.new tally.new }
 {
     match look.stage {
-        LookStage::Value(stamp, leaf) => {
+        LookStage::Value { stamp, leaf } => {
             let word = steps.read_leaf(stamp, leaf, 0);
-            hear_word(tally, look, lo, trail, LookStage::Value(stamp, leaf), word);
+            hear_word(
+                tally,
+                look,
+                lo,
+                path_buffer,
+                LookStage::Value { stamp, leaf },
+                word,
+            );
         }
-        LookStage::Length(stamp, leaf, value) => {
+        LookStage::Length { stamp, leaf, value } => {
             let word = steps.read_leaf(stamp, leaf, 1);
-            let stage = LookStage::Length(stamp, leaf, value);
-            hear_word(tally, look, lo, trail, stage, word);
+            let stage = LookStage::Length { stamp, leaf, value };
+            hear_word(tally, look, lo, path_buffer, stage, word);
         }
-        LookStage::Bytes(seen, number) => {
+        LookStage::Bytes { seen, number } => {
             let word = steps.read_leaf(seen.stamp, seen.leaf, 2 + usize::from(number));
-            hear_word(tally, look, lo, trail, LookStage::Bytes(seen, number), word);
+            hear_word(
+                tally,
+                look,
+                lo,
+                path_buffer,
+                LookStage::Bytes { seen, number },
+                word,
+            );
         }
         _ => unreachable!(),
     }
@@ -176,13 +211,13 @@ fn hear_begun(tally: &mut Tally, look: &mut Look, stage: LookStage, begun: Resul
     requires turn { HasTurn tally.old }
     requires at { look.old.stage ≡ stage }
     requires wants { WantsVersion (asks stage) }
-    ensures gone { (z : Sizes) (lo : List ℕ) (t : Trailed) (v w : View) (cell : CellOf) → asks stage ≡ Some (askeds.Begin cell) →
+    ensures gone { (z : Sizes) (lo : List ℕ) (t : PathBufferOf) (v w : View) (cell : CellOf) → asks stage ≡ Some (askeds.Begin cell) →
         Begun z v w cell begun → HasGone z lo v look.old t tally.old w look.new t tally.new }
 {
     tally.left -= 1;
     match begun {
         Ok(stamp) => look.began_at(stage, stamp),
-        Err(_) => begin_anew(tally, look),
+        Err(_) => restart(tally, look),
     }
 }
 
@@ -192,13 +227,13 @@ fn hear_checked(tally: &mut Tally, look: &mut Look, stage: LookStage, checked: R
     requires turn { HasTurn tally.old }
     requires at { look.old.stage ≡ stage }
     requires wants { WantsCheck (asks stage) }
-    ensures gone { (z : Sizes) (lo : List ℕ) (t : Trailed) (v w : View) (x : StampOf) → asks stage ≡ Some (askeds.Check x) →
+    ensures gone { (z : Sizes) (lo : List ℕ) (t : PathBufferOf) (v w : View) (x : StampOf) → asks stage ≡ Some (askeds.Check x) →
         WasChecked z v w x None checked → HasGone z lo v look.old t tally.old w look.new t tally.new }
 {
     tally.left -= 1;
     match checked {
         Ok(()) => look.checked_at(stage),
-        Err(_) => begin_anew(tally, look),
+        Err(_) => restart(tally, look),
     }
 }
 
@@ -208,30 +243,30 @@ fn hear_word(
     tally: &mut Tally,
     look: &mut Look,
     lo: &[u8],
-    trail: &mut Trail,
+    path_buffer: &mut PathBuffer,
     stage: LookStage,
     word: u64,
 )
     requires turn { HasTurn tally.old }
     requires at { look.old.stage ≡ stage }
     requires wants { WantsWord (asks stage) }
-    requires looks { (z : Sizes) × (v : View) × IsUnderWay z lo.now v look.old trail.old tally.old }
+    requires looks { (z : Sizes) × (v : View) × IsUnderWay z lo.now v look.old path_buffer.old tally.old }
     ensures gone { (z : Sizes) (v w : View) (asked : ActionOf) → asks stage ≡ Some asked →
         ((d : Deed) → Answers z (telling d) asked (told.Word word) v w) →
-        HasGone z lo.now v look.old trail.old tally.old w look.new trail.new tally.new }
+        HasGone z lo.now v look.old path_buffer.old tally.old w look.new path_buffer.new tally.new }
 {
     tally.left -= 1;
-    look.read_at(stage, lo, trail, word);
+    look.read_at(stage, lo, path_buffer, word);
 }
 
 /// A version word was locked, obsolete or changed: the look begins anew, and that is counted.
 #[inline(always)]
-fn begin_anew(tally: &mut Tally, look: &mut Look)
+fn restart(tally: &mut Tally, look: &mut Look)
     requires few { tally.old.restarts < 4294967295 }
     ensures tally { tally.new ≡ record tally.old { restarts = tally.old.restarts + 1 } }
     ensures steps { most_steps look.new.depth look.new.stage ≡ 0 }
     ensures least { least_steps look.new.stage ≡ 0 }
-    ensures fits { (z : Sizes) (lo : List ℕ) (hi : KeyBound) (t : Trailed) (u v : View) → IsReading u v → Fits z lo hi look.new t u v }
+    ensures fits { (z : Sizes) (lo : List ℕ) (hi : KeyBound) (t : PathBufferOf) (u v : View) → IsReading u v → Fits z lo hi look.new t u v }
 {
     look.failed();
     tally.restarts += 1;

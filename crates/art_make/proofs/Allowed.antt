@@ -7,7 +7,7 @@ use Rattle.art_cell.specs.declared.cells.Cell.TheVariants as cell
 use Rattle.art_cell.specs.declared.cells.Link.TheVariants.{Node as node}
 use Rattle.art_cell.specs.declared.cells.Node.{Node}
 use Rattle.art_machine.specs.Acting.{MayCommit, MayRelease, MayUpgrade, MayWrite}
-use Rattle.art_make.specs.Making.{GivesUp, IsLocking, IsReleasing, so_many}
+use Rattle.art_make.specs.Apply.{GivesUp, IsLocking, IsReleasing, so_many}
 use Rattle.art_make.proofs.Committing.{limbo_after}
 use Rattle.art_make.proofs.Holding.{new_apart, none_filled, no_members, same_target, target_low, target_not_new}
 use Rattle.art_make.proofs.Locking.{none_claimed, same_hand}

@@ -14,7 +14,7 @@ use Rattle.art_cell.specs.declared.layouts.Layout.{Layout}
 use Rattle.art_cell.specs.declared.layouts.Layout.TheVariants.{Node4, Node16, Node48, Node256}
 use Rattle.art_plan.specs.ArtCommit.AnyChange.{IsClaimed}
 use Rattle.art_plan.proofs.ArtCommit.Members.{claimed_nodes_come}
-use Rattle.art_make.specs.Making.{Fails, GivesUp, HasFailed, IsCommitted, IsLocking, IsOver, IsReleasing, linked, so_many}
+use Rattle.art_make.specs.Apply.{Fails, GivesUp, HasFailed, IsCommitted, IsLocking, IsOver, IsReleasing, linked, so_many}
 use Rattle.art_make.proofs.Holding.{Fills, drop_holds, new_stays_linked, node_dropped, none_filled, none_held, target_low}
 use Rattle.art_make.proofs.Locking.{same_hand, same_limbo}
 use Rattle.art_plan.specs.Changes.{IsLocked, IsTarget, filled_at, leaf_linked, target_at, targets, unlinked}

@@ -11,7 +11,7 @@ use Rattle.art_cell.specs.declared.cells.Link.TheVariants.{Node as node}
 use Rattle.art_cell.specs.declared.cells.Node.{Node}
 use Rattle.art_plan.specs.Changes.{IsLocked, IsTarget, put_at, target_at, targets, unlinked, with_puts}
 use Rattle.art_plan.specs.Whole.{HoldsWhole, IsFilledBy, IsNewBy, IsWhole, made_at, made_word}
-use Rattle.art_make.specs.Making.{so_many}
+use Rattle.art_make.specs.Apply.{so_many}
 use Rattle.art_plan.specs.declared.changes.Change.{Change}
 use Rattle.art_plan.specs.declared.changes.Put.{Put}
 use Rattle.art_plan.specs.declared.changes.Target.{Target}

@@ -5,7 +5,7 @@ use Rattle.art_cell.specs.Words.{size}
 use Rattle.art_cell.specs.declared.cells.Cell.TheVariants as cell
 use Rattle.art_cell.specs.declared.cells.Link.{Link}
 use Rattle.art_cell.specs.declared.cells.Node.{Node}
-use Rattle.art_make.specs.Making.{Fails, GivesUp, IsLocking, so_many}
+use Rattle.art_make.specs.Apply.{Fails, GivesUp, IsLocking, so_many}
 use Rattle.art_make.proofs.Holding.{Fills, claim_holds, fill_holds, lock_holds, none_filled, target_low, write_holds}
 use Rattle.art_plan.specs.Changes.{IsLocked, IsTarget, OnlyLocks, put_at, target_at, targets}
 use Rattle.art_plan.specs.Whole.{HoldsWhole, IsFilledBy, IsNewBy, IsWhole, made_at, made_word}

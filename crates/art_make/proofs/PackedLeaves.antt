@@ -8,7 +8,7 @@ use Rattle.art_cell.specs.Leaves.{leaf_word}
 use Rattle.art_cell.specs.Lemmas.LeafWords.{words_mean_leaf}
 use Rattle.art_cell.specs.declared.cells.Link.TheVariants.{Leaf as leaf}
 use Rattle.art_plan.specs.ArtCommit.CommitLaws.{HasLeaf}
-use Rattle.art_make.specs.Packing.{IsPacked, OnlyPacks, word_asked}
+use Rattle.art_make.specs.LeafWriter.{IsPacked, OnlyPacks, word_asked}
 use Rattle.art_machine.specs.Acting.{IsAllowed, IsLeafInHand}
 use Rattle.art_machine.specs.declared.actions.Action.{Action}
 use Rattle.art_machine.specs.declared.actions.Action.TheVariants.{WriteLeaf}

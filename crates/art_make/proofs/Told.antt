@@ -11,13 +11,13 @@ use Rattle.art_cell.specs.declared.cells.Node.{Node}
 use Rattle.art_machine.proofs.Counting.{steps_few, steps_made}
 use Rattle.art_machine.proofs.Words.{done_row}
 use Rattle.art_machine.specs.Acting.{Answers, IsAllowed}
-use Rattle.art_make.specs.Making.{Fits, GivesUp, IsLocking, IsOver, IsReleasing, StageFits, asks, at_claim, at_fill, at_release, brings, claim_of, claimed_so, claims, ended_at, most_steps, put_into, released_so, releases}
+use Rattle.art_make.specs.Apply.{Fits, GivesUp, IsLocking, IsOver, IsReleasing, StageFits, asks, at_claim, at_fill, at_release, brings, claim_of, claimed_so, claims, ended_at, most_steps, put_into, released_so, releases}
 use Rattle.art_machine.specs.declared.actions.Answer.{Answer}
 use Rattle.art_machine.specs.declared.actions.Answer.TheVariants.{Upgraded, Done}
 use Rattle.art_machine.specs.declared.actions.Action.{Action}
 use Rattle.art_machine.specs.declared.actions.Action.TheVariants.{Begin, Read, ReadLeaf, Check, Settle, Upgrade, Claim, Write, WriteLeaf, Commit, Release, ClearBit, GiveBack, Free, ReadEpoch, StorePin, RaiseEpoch, ReadPin}
-use Rattle.art_make.specs.declared.making.Making.{Making}
-use Rattle.art_make.specs.declared.making.Making.TheVariants.{Upgrading, Claiming, Filling, Writing, Committing, Releasing, ReleasingNode, GivingUp, Ended}
+use Rattle.art_make.specs.declared.apply.Apply.{Apply}
+use Rattle.art_make.specs.declared.apply.Apply.TheVariants.{Upgrading, Claiming, Filling, Writing, Committing, Releasing, ReleasingNode, GivingUp, Ended}
 use Rattle.art_make.proofs.Allowed.{may_claim, may_commit, may_fill, may_give_up, may_release, may_release_new, may_upgrade, may_write}
 use Rattle.art_make.proofs.Committing.{commit_on, give_on, release_new, release_on, some_words}
 use Rattle.art_make.proofs.Holding.{Fills}
@@ -130,7 +130,7 @@ two_are f g a b = λ i d. each d i
 -- ---- it goes on
 
 -- at each stage but the last there is something to do
-pub going : (z : Sizes) (u v : View) (c : Change) (m : Making) → Fits z c m u v → ended_at m ≡ None → (a : Action) × (asks c m ≡ Some a)
+pub going : (z : Sizes) (u v : View) (c : Change) (m : Apply) → Fits z c m u v → ended_at m ≡ None → (a : Action) × (asks c m ≡ Some a)
 going z u v c (Upgrading i) fits on = let x = there c i fits.stage.0 in (Upgrade x.0.stamp, ap (option_map (λ (y : Target). Upgrade y.stamp)) x.1)
 going z u v c (Claiming b) fits on = let n = fits.stage.0 in (Claim n.0, ap (option_map Claim) n.1)
 going z u v c (Filling b place) fits on =
@@ -151,7 +151,7 @@ going z u v c (GivingUp locked released e) fits on =
 going z u v c (Ended r) fits on = absurd (cc)
 
 -- what is asked may be done
-pub allowed : (z : Sizes) (u v : View) (c : Change) (m : Making) (a : Action) → Fits z c m u v → asks c m ≡ Some a → IsAllowed z (brings c) v a
+pub allowed : (z : Sizes) (u v : View) (c : Change) (m : Apply) (a : Action) → Fits z c m u v → asks c m ≡ Some a → IsAllowed z (brings c) v a
 allowed z u v c (Upgrading i) a fits is =
     let k = map_some (λ (y : Target). Upgrade y.stamp) (target_at c i) a is in
     subst (IsAllowed z (brings c) v) k.2 (may_upgrade z u c fits.planned i k.0 v k.1 fits.stage.1)
@@ -180,7 +180,7 @@ allowed z u v c (Ended r) a fits is = absurd (cc)
 
 -- ---- an upgrade alone is refused
 
-upgrade_asked : (c : Change) (m : Making) (x : Stamp) → asks c m ≡ Some (Upgrade x) → (i : ℕ) × (m ≡ Upgrading i)
+upgrade_asked : (c : Change) (m : Apply) (x : Stamp) → asks c m ≡ Some (Upgrade x) → (i : ℕ) × (m ≡ Upgrading i)
 upgrade_asked c (Upgrading i) x is = (i, refl)
 upgrade_asked c (Claiming b) x is = let k = map_some Claim (made_at b c) (Upgrade x) is in absurd (cc)
 upgrade_asked c (Filling b place) x is = let k = map_some (λ (n : Node). Write (cell.Node n) place (made_word b c place)) (made_at b c) (Upgrade x) is in absurd (cc)
@@ -195,7 +195,7 @@ upgrade_asked c (GivingUp locked released e) x is = let k = map_some (λ (y : Ta
 upgrade_asked c (Ended r) x is = absurd (cc)
 
 -- what is refused was an upgrade
-pub refused_upgrade : (z : Sizes) (c : Change) (m : Making) (a : Action) (r : Result ⊤ UpgradeFault) (v w : View) → asks c m ≡ Some a → Answers z (brings c) a (Upgraded r) v w → (i : ℕ) × (m ≡ Upgrading i)
+pub refused_upgrade : (z : Sizes) (c : Change) (m : Apply) (a : Action) (r : Result ⊤ UpgradeFault) (v w : View) → asks c m ≡ Some a → Answers z (brings c) a (Upgraded r) v w → (i : ℕ) × (m ≡ Upgrading i)
 refused_upgrade z c m (Upgrade x) r v w is row = upgrade_asked c m x is
 refused_upgrade z c m (Claim n) r v w is row = absurd row
 refused_upgrade z c m (Write d i x) r v w is row = absurd row
@@ -228,7 +228,7 @@ few_filled c None = omega arith
 few_filled c (Some n) = few_words n.layout
 
 -- until the end there are fewer than 580
-pub few_steps : (z : Sizes) (u v : View) (c : Change) (m : Making) → Fits z c m u v → ended_at m ≡ None → most_steps m < 580
+pub few_steps : (z : Sizes) (u v : View) (c : Change) (m : Apply) → Fits z c m u v → ended_at m ≡ None → most_steps m < 580
 few_steps z u v c (Upgrading i) fits on = let low = fits.stage.0 in let few = fits.small.targets in omega arith
 few_steps z u v c (Claiming false) fits on = omega arith
 few_steps z u v c (Claiming true) fits on = omega arith
@@ -247,7 +247,7 @@ few_steps z u v c (GivingUp locked released e) fits on = let low = fits.stage.0 
 few_steps z u v c (Ended r) fits on = absurd (cc)
 
 -- how it ended
-pub ends_as : (z : Sizes) (u v : View) (c : Change) (m : Making) (r : Result ⊤ UpgradeFault) → Fits z c m u v → ended_at m ≡ Some r → IsOver u c r v × (v.steps ≤ u.steps + 580)
+pub ends_as : (z : Sizes) (u v : View) (c : Change) (m : Apply) (r : Result ⊤ UpgradeFault) → Fits z c m u v → ended_at m ≡ Some r → IsOver u c r v × (v.steps ≤ u.steps + 580)
 ends_as z u v c (Ended e) r fits is = (subst (λ (a : Result ⊤ UpgradeFault). IsOver u c a v) (same_Some e r is) fits.stage, fits.steps)
 ends_as z u v c (Upgrading i) r fits is = absurd (cc)
 ends_as z u v c (Claiming b) r fits is = absurd (cc)
@@ -262,7 +262,7 @@ ends_as z u v c (GivingUp locked released e) r fits is = absurd (cc)
 
 module _ (z : Sizes) (u v w : View) (c : Change) (a : Action) (answer : Answer) where
   -- where the next stage fits, and comes further, so does all that is known
-  pub fits_on : (m n : Making) → Fits z c m u v → asks c m ≡ Some a → Answers z (brings c) a answer v w → most_steps m < most_steps n → StageFits c n u w → Fits z c n u w
+  pub fits_on : (m n : Apply) → Fits z c m u v → asks c m ≡ Some a → Answers z (brings c) a answer v w → most_steps m < most_steps n → StageFits c n u w → Fits z c n u w
   fits_on m n fits is row more stage = record {
     planned = fits.planned;
     small = fits.small;

@@ -6,9 +6,9 @@ use Rattle.art_cell.specs.declared.cells.Node.{Node}
 use Rattle.art_cell.specs.declared.layouts.Layout.{Layout}
 use Rattle.art_cell.specs.declared.layouts.Layout.TheVariants.{Node4, Node16, Node48, Node256}
 use Rattle.art_make.proofs.Told.{claim_some, few_filled, two_are}
-use Rattle.art_make.specs.Making.{Fits, IsLocking, OnlyWrites, at_fill, fills_left, is_writing, most_steps, so_many, words_left}
-use Rattle.art_make.specs.declared.making.Making.{Making}
-use Rattle.art_make.specs.declared.making.Making.TheVariants.{Upgrading, Claiming, Filling, Writing, Committing, Releasing, ReleasingNode, GivingUp, Ended}
+use Rattle.art_make.specs.Apply.{Fits, IsLocking, OnlyWrites, at_fill, fills_left, is_writing, most_steps, so_many, words_left}
+use Rattle.art_make.specs.declared.apply.Apply.{Apply}
+use Rattle.art_make.specs.declared.apply.Apply.TheVariants.{Upgrading, Claiming, Filling, Writing, Committing, Releasing, ReleasingNode, GivingUp, Ended}
 use Rattle.art_plan.specs.Changes.{filled_at, targets}
 use Rattle.art_plan.specs.Whole.{filled_ends, made_at}
 use Rattle.art_plan.specs.declared.changes.Change.{Change}
@@ -47,7 +47,7 @@ few_fills c true place low = let few = few_filled c (made_at true c) in omega (a
 
 module _ (z : Sizes) (u v : View) (c : Change) where
   -- there is one
-  pub some_words : (m : Making) → Fits z c m u v → is_writing m ≡ true → 0 < words_left c m
+  pub some_words : (m : Apply) → Fits z c m u v → is_writing m ≡ true → 0 < words_left c m
   some_words (Upgrading i) fits on = absurd (cc)
   some_words (Claiming b) fits on = absurd (cc)
   some_words (Filling b place) fits on = let some = some_fills c b place fits.stage.1 in omega (arith, some)
@@ -62,7 +62,7 @@ module _ (z : Sizes) (u v : View) (c : Change) where
   some_words (Ended r) fits on = absurd (cc)
 
   -- with those that are made, there are no more steps than before a commit
-  pub few_words_left : (m : Making) → Fits z c m u v → is_writing m ≡ true → most_steps m + words_left c m ≤ most_steps Committing
+  pub few_words_left : (m : Apply) → Fits z c m u v → is_writing m ≡ true → most_steps m + words_left c m ≤ most_steps Committing
   few_words_left (Upgrading i) fits on = absurd (cc)
   few_words_left (Claiming b) fits on = absurd (cc)
   few_words_left (Filling b place) fits on =

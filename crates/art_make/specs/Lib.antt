@@ -1,5 +1,5 @@
 -- the crates below, for those above to name
 pub use Rattle.art_plan.specs.ArtCommit
 pub use Rattle.art_plan.specs as ArtPlan
-pub mod Making
-pub mod Packing
+pub mod Apply
+pub mod LeafWriter

@@ -32,7 +32,7 @@
 //! All upgrades come before the claims and the first write: a claimed node could not be given up, as it is locked, and not
 //! obsolete as a number in hand is.
 //!
-//! `Making` is the machine that makes them: a value of scalars with `next` and `told`, as that of `art_find`. The change stands
+//! `Apply` is the machine that makes them: a value of scalars with `next` and `told`, as that of `art_find`. The change stands
 //! beside it and stays as it is. `perform` of `art_machine` makes the step that it asks for.
 //! Where words are next (`is_writing`), `write_on` writes all that are left. The words of each new node, of which there may be
 //! 265, are written in a loop of their own.
@@ -41,12 +41,12 @@
 //!
 //! An upgrade finds another version word (`Changed`), or it is refused as its counter is at its end (`Exhausted`), which is no
 //! step. What is locked by then is released, from the top down, with nothing written. Nothing is told and the numbers stay
-//! in hand, so that whoever drives it may begin anew.
+//! in hand, so that whoever drives it may restart.
 //!
 //! # The leaf that comes
 //!
-//! A leaf's words are written before anything is locked, while its number is in hand and nobody can see it: `Packing` writes
-//! the ten of them, one after another. They stay written where the change is given up and begun anew.
+//! A leaf's words are written before anything is locked, while its number is in hand and nobody can see it: `LeafWriter` writes
+//! the ten of them, one after another. They stay written where the change is given up and restarted.
 //!
 //! # What is proved
 //!
@@ -55,9 +55,9 @@
 //! failed for one of its two causes and nothing was told (`HasFailed`). It makes at most 580 steps.
 #![tactic(auto)]
 
-mod making;
-mod packing;
+mod apply;
+mod leaf_writer;
 mod words;
 
-pub use making::Making;
-pub use packing::Packing;
+pub use apply::Apply;
+pub use leaf_writer::LeafWriter;

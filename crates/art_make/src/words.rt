@@ -1,27 +1,27 @@
 //! The words of a change: once its cells are held, those of each new node are written in a loop of their own, and so are those
 //! that are put into the targets.
 ghost use Rattle.std.specs.Prelude.{◌≡◌, ℕ, ◌+◌, ◌≤◌, [], take, length};
-ghost use Rattle.art_make.specs.Making.{Fits, IsLocking, OnlyWrites, at_fill, fills_left};
-ghost use Rattle.art_make.specs.declared.making.Making.TheVariants.{Filling as filling};
+ghost use Rattle.art_make.specs.Apply.{Fits, IsLocking, OnlyWrites, at_fill, fills_left};
+ghost use Rattle.art_make.specs.declared.apply.Apply.TheVariants.{Filling as filling};
 ghost use Rattle.art_plan.specs.Changes.{targets};
 ghost use Rattle.art_plan.specs.Whole.{IsWhole, filled_ends};
 ghost use Rattle.art_step.specs.declared.views.Sizes.{Sizes};
 ghost use Rattle.art_step.specs.declared.views.View.{View};
 
-use crate::Making;
+use crate::Apply;
 use art_cell::Cell;
 use art_plan::Change;
 use art_step::{Held, Steps};
 
-impl Making {
-    ghost use Rattle.art_make.specs.Making.{WritesAll, is_writing};
+impl Apply {
+    ghost use Rattle.art_make.specs.Apply.{WritesAll, is_writing};
 
     /// Whether words are to be written.
     #[inline(always)]
     pub fn is_writing(&self) -> bool
         ensures { result ≡ is_writing self.now }
     {
-        matches!(self, Making::Filling(_, _) | Making::Writing(_))
+        matches!(self, Apply::Filling { .. } | Apply::Writing(_))
     }
 
     /// Writes all words that are left, where it stands among them, and says how many those were; elsewhere none.
@@ -34,15 +34,15 @@ impl Making {
             Fits z change.now self.new u (S.view steps.new) }
     {
         match *self {
-            Making::Filling(copy, place) => {
+            Apply::Filling { copy, place } => {
                 let filled = fill_all(steps, change, copy, place);
                 let put = put_from(steps, change, 0);
-                *self = Making::Committing;
+                *self = Apply::Committing;
                 filled + put
             }
-            Making::Writing(index) => {
+            Apply::Writing(index) => {
                 let put = put_from(steps, change, index);
-                *self = Making::Committing;
+                *self = Apply::Committing;
                 put
             }
             _ => 0,

@@ -30,7 +30,7 @@ pub enum SoughtFrom {
     Keys(u8),
     /// No byte before this one has a child, from the lowest that is asked for on; its child is the child word at this
     /// place, where 0 is none.
-    Child(usize, u8),
+    Child { place: usize, byte: u8 },
     /// No byte has a child, from the lowest that is asked for on.
     Nothing,
 }
@@ -39,7 +39,7 @@ pub enum SoughtFrom {
 #[derive(Clone, Copy)]
 enum KeySearch {
     /// At this position stands this byte.
-    At(usize, u8),
+    At { position: usize, byte: u8 },
     /// The next word of key bytes has to be read first.
     Later,
     /// No key byte is at the byte or above.
@@ -89,7 +89,10 @@ pub fn first_word_from(layout: Layout, low: u8, header: u64) -> SoughtFrom
     match layout {
         Layout::Node4 | Layout::Node16 => SoughtFrom::Keys(0),
         Layout::Node48 => SoughtFrom::Keys(low / 8),
-        Layout::Node256 => SoughtFrom::Child(FIRST_OF_ALL + usize::from(low), low),
+        Layout::Node256 => SoughtFrom::Child {
+            place: FIRST_OF_ALL + usize::from(low),
+            byte: low,
+        },
     }
 }
 
@@ -117,7 +120,10 @@ fn sorted_child(sorted: Sorted, byte: u8, header: u64, number: u8, word: u64) ->
     ensures counted { AsksCounted (layout_of sorted) header result }
 {
     match first_key(sorted, byte, header, number, word) {
-        KeySearch::At(index, found) => {
+        KeySearch::At {
+            position: index,
+            byte: found,
+        } => {
             if found == byte {
                 Sought::Child(sorted.first_child() + index)
             } else {
@@ -137,7 +143,13 @@ fn sorted_child_from(sorted: Sorted, low: u8, header: u64, number: u8, word: u64
     ensures counted { AsksCountedFrom (layout_of sorted) header result }
 {
     match first_key(sorted, low, header, number, word) {
-        KeySearch::At(index, found) => SoughtFrom::Child(sorted.first_child() + index, found),
+        KeySearch::At {
+            position: index,
+            byte: found,
+        } => SoughtFrom::Child {
+            place: sorted.first_child() + index,
+            byte: found,
+        },
         KeySearch::Later => SoughtFrom::Keys(number + 1),
         KeySearch::Nothing => SoughtFrom::Nothing,
     }
@@ -160,7 +172,10 @@ fn first_key(sorted: Sorted, byte: u8, header: u64, number: u8, word: u64) -> Ke
         }
         let found = byte_at(word, at);
         if found >= byte {
-            return KeySearch::At(first + at, found);
+            return KeySearch::At {
+                position: first + at,
+                byte: found,
+            };
         }
     }
     if left > 8 {
@@ -191,7 +206,7 @@ fn indexed_child_from(low: u8, number: u8, word: u64) -> SoughtFrom
     for at in first.max(usize::from(low))..first + 8 {
         let byte = at as u8;
         if let Some(place) = place_named(byte, word) {
-            return SoughtFrom::Child(place, byte);
+            return SoughtFrom::Child { place, byte };
         }
     }
     if number < LAST_INDEX_WORD {

@@ -15,7 +15,7 @@ use art_cell::{Body, Entry};
 #[derive(Clone, Copy)]
 pub(crate) enum Edit {
     /// This one comes, before the one that stands there.
-    Add(usize, Entry),
+    Add { at: usize, entry: Entry },
     /// The one that stands there goes.
     Remove(usize),
 }
@@ -27,7 +27,7 @@ impl Edit {
         ensures { result ≡ edit_position self }
     {
         match self {
-            Edit::Add(position, _) | Edit::Remove(position) => position,
+            Edit::Add { at, .. } | Edit::Remove(at) => at,
         }
     }
 }
@@ -39,7 +39,7 @@ pub(crate) fn header_after(sorted: Sorted, body: &Body, edit: Edit) -> u64
     ensures { result ≡ words_after sorted body.now edit 1 }
 {
     match edit {
-        Edit::Add(_, _) => body.words[HEADER] + 1,
+        Edit::Add { .. } => body.words[HEADER] + 1,
         Edit::Remove(_) => body.words[HEADER] - 1,
     }
 }
@@ -52,8 +52,8 @@ fn entry_after(sorted: Sorted, body: &Body, edit: Edit, position: usize) -> Entr
     ensures { result ≡ entry_or_none (children_after sorted body.now edit) position }
 {
     match edit {
-        Edit::Add(at, entry) if position == at => entry,
-        Edit::Add(at, _) if position > at => entry_at(sorted, body, position - 1),
+        Edit::Add { at, entry } if position == at => entry,
+        Edit::Add { at, .. } if position > at => entry_at(sorted, body, position - 1),
         Edit::Remove(at) if position >= at => entry_at(sorted, body, position + 1),
         _ => entry_at(sorted, body, position),
     }
@@ -71,7 +71,7 @@ fn key_word_after(sorted: Sorted, body: &Body, edit: Edit, place: usize) -> u64
     let at = edit.position().saturating_sub(from);
     let word = body.words[place];
     match edit {
-        Edit::Add(_, _) => put_in(word, at, entry_after(sorted, body, edit, from + at).byte),
+        Edit::Add { .. } => put_in(word, at, entry_after(sorted, body, edit, from + at).byte),
         Edit::Remove(_) => take_out(word, at, entry_after(sorted, body, edit, from + 7).byte),
     }
 }

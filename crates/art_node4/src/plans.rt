@@ -28,7 +28,15 @@ pub fn plan_add(sorted: Sorted, body: &Body, byte: u8, child: u64, writes: &mut 
         return false;
     }
     let at = position(sorted, body, byte);
-    plan(sorted, body, Edit::Add(at, Entry { byte, child }), writes);
+    plan(
+        sorted,
+        body,
+        Edit::Add {
+            at,
+            entry: Entry { byte, child },
+        },
+        writes,
+    );
     true
 }
 

@@ -75,7 +75,7 @@ fn told_by_words(rt: &impl Abort, layout: Layout, words: &[u64; 266], low: u8) -
 fn least_by_words(rt: &impl Abort, layout: Layout, words: &[u64; 266], low: u8) -> Option<Entry> {
     let mut low = low;
     for _ in 0..256 {
-        let SoughtFrom::Child(place, byte) = told_by_words(rt, layout, words, low) else {
+        let SoughtFrom::Child { place, byte } = told_by_words(rt, layout, words, low) else {
             return None;
         };
         assert!(rt; place < 266);
@@ -187,7 +187,7 @@ fn a_node4_asks_for_its_word_of_keys(rt: HostRuntime) {
         &words,
         0,
         &[0],
-        SoughtFrom::Child(11, 1),
+        SoughtFrom::Child { place: 11, byte: 1 },
     );
     check_order_from(
         &rt,
@@ -195,7 +195,7 @@ fn a_node4_asks_for_its_word_of_keys(rt: HostRuntime) {
         &words,
         2,
         &[0],
-        SoughtFrom::Child(12, 2),
+        SoughtFrom::Child { place: 12, byte: 2 },
     );
     check_order_from(&rt, Layout::Node4, &words, 3, &[0], SoughtFrom::Nothing);
     check_order(&rt, Layout::Node4, &[0; 266], 0, &[0], Sought::Nothing);
@@ -215,7 +215,10 @@ fn a_node16_asks_for_its_second_word_only_where_it_must(rt: HostRuntime) {
         &words,
         71,
         &[0],
-        SoughtFrom::Child(19, 80),
+        SoughtFrom::Child {
+            place: 19,
+            byte: 80,
+        },
     );
     check_order_from(
         &rt,
@@ -223,7 +226,10 @@ fn a_node16_asks_for_its_second_word_only_where_it_must(rt: HostRuntime) {
         &words,
         81,
         &[0, 1],
-        SoughtFrom::Child(20, 90),
+        SoughtFrom::Child {
+            place: 20,
+            byte: 90,
+        },
     );
     check_order_from(
         &rt,
@@ -255,7 +261,10 @@ fn a_node48_asks_for_the_bytes_index_word_and_those_after_it(rt: HostRuntime) {
         &words,
         0,
         &[0, 1, 2],
-        SoughtFrom::Child(42, 20),
+        SoughtFrom::Child {
+            place: 42,
+            byte: 20,
+        },
     );
     check_order_from(
         &rt,
@@ -263,7 +272,10 @@ fn a_node48_asks_for_the_bytes_index_word_and_those_after_it(rt: HostRuntime) {
         &words,
         90,
         &[11],
-        SoughtFrom::Child(43, 90),
+        SoughtFrom::Child {
+            place: 43,
+            byte: 90,
+        },
     );
     check_order_from(
         &rt,
@@ -271,7 +283,10 @@ fn a_node48_asks_for_the_bytes_index_word_and_those_after_it(rt: HostRuntime) {
         &words,
         225,
         &[28, 29, 30],
-        SoughtFrom::Child(44, 240),
+        SoughtFrom::Child {
+            place: 44,
+            byte: 240,
+        },
     );
     check_order_from(
         &rt,
@@ -294,7 +309,10 @@ fn a_node256_asks_for_the_child_at_once(rt: HostRuntime) {
         &words,
         99,
         &[],
-        SoughtFrom::Child(109, 99),
+        SoughtFrom::Child {
+            place: 109,
+            byte: 99,
+        },
     );
 }
 

@@ -12,12 +12,12 @@ use Rattle.art_plan.specs.ChooseInsert.Seen.{WasSeen}
 use Rattle.art_plan.proofs.SiteWords.{site_apart}
 use Rattle.art_plan.specs.Seen.{HasBelow}
 use Rattle.art_plan.specs.Puts.{IsTaken}
-use Rattle.art_find.specs.Desks.{above_of, node_of}
+use Rattle.art_find.specs.ReadSets.{above_of, node_of}
 use Rattle.art_find.specs.Findings.{IsStanding}
 use Rattle.art_find.specs.Rereadings.{AreKnown}
-use Rattle.art_find.specs.declared.desks.Desk.{Desk}
+use Rattle.art_find.specs.declared.read_sets.ReadSet.{ReadSet}
 use Rattle.art_find.specs.declared.findings.Above.{Above}
-use Rattle.art_find.specs.declared.findings.Stand.{Stand}
+use Rattle.art_find.specs.declared.findings.Position.{Position}
 use Rattle.art_plan.specs.Seen.{SiteFits, site_stamp}
 use Rattle.art_step.specs.Knowledge.{CellAt, HoldsAll, IsShape}
 use Rattle.art_step.specs.Shows.{HasChild, Shows}
@@ -42,47 +42,47 @@ named_fits z s (cell.Leaf l) d p shape has = let no = has.names in absurd (cc)
 named_fits z s (cell.Node m) d p shape has = child_fits z s shape m has.path has.there has.byte d has.names
 
 -- what a pass knows of the cell above, where it has the node n
-module _ (z : Sizes) (k : List ℕ) (t : Stand) (desk : Desk) (n : Node) (on : t.stamp.cell ≡ cell.Node n) (a : Above) (is : t.above ≡ Some a) where
+module _ (z : Sizes) (k : List ℕ) (t : Position) (read_set : ReadSet) (n : Node) (on : t.stamp.cell ≡ cell.Node n) (a : Above) (is : t.above ≡ Some a) where
   abbrev byte : ℕ
   byte = get_or k (a.depth - 1) 0
 
   -- the path by which it has the node was noted of the node
-  pub led_there : (u : View) (s : Cells) → IsStanding z k t desk u → HoldsAll u t.stamp s → StandsAt (heap_of s) (node n) (take a.depth k)
+  pub led_there : (u : View) (s : Cells) → IsStanding z k t read_set u → HoldsAll u t.stamp s → StandsAt (heap_of s) (node n) (take a.depth k)
   led_there u s standing holds = subst (λ (c : Cell). CellAt s c (take a.depth k)) on (holds (note_of t.stamp (Starts (take a.depth k))) (standing.place.led a is) refl)
 
-  module _ (u : View) (standing : IsStanding z k t desk u) (known : AreKnown (above_of desk) 1 (size_of a.stamp.cell)) where
-    whole : IsWhole z u a.stamp (above_of desk)
-    whole = above_whole z k t desk u standing n on a is known
+  module _ (u : View) (standing : IsStanding z k t read_set u) (known : AreKnown (above_of read_set) 1 (size_of a.stamp.cell)) where
+    whole : IsWhole z u a.stamp (above_of read_set)
+    whole = above_whole z k t read_set u standing n on a is known
 
     shows : Shows z u a.stamp (λ s. HasChild s a.stamp.cell (node n) (take a.depth k))
-    shows = (above_is z k t desk u standing n on a is).shows
+    shows = (above_is z k t read_set u standing n on a is).shows
 
-    fits : (body : Bor Body) → IsFilled a.stamp.cell (above_of desk) body.now → byte < 256 → SiteFits z u (site_in a.stamp body byte) k a.depth (Some (node n))
-    fits = site_fits z u a.stamp (above_of desk) whole (node n) k a.depth (above_is z k t desk u standing n on a is).deep shows
+    fits : (body : Bor Body) → IsFilled a.stamp.cell (above_of read_set) body.now → byte < 256 → SiteFits z u (site_in a.stamp body byte) k a.depth (Some (node n))
+    fits = site_fits z u a.stamp (above_of read_set) whole (node n) k a.depth (above_is z k t read_set u standing n on a is).deep shows
 
-  module _ (old : WasSeen z k t desk a.stamp (above_of desk)) where
+  module _ (old : WasSeen z k t read_set a.stamp (above_of read_set)) where
     pub above_deep : (m : Node) → a.stamp.cell ≡ cell.Node m → 0 < a.depth
-    above_deep = site_deep z old.0.view a.stamp (above_of desk) (whole old.0.view old.0.standing old.1) (node n) k a.depth (above_is z k t desk old.0.view old.0.standing n on a is).deep
+    above_deep = site_deep z old.0.view a.stamp (above_of read_set) (whole old.0.view old.0.standing old.1) (node n) k a.depth (above_is z k t read_set old.0.view old.0.standing n on a is).deep
         (shows old.0.view old.0.standing old.1) old.0.tree old.0.shape old.0.holds
 
-    pub above_taken : (body : Bor Body) → IsFilled a.stamp.cell (above_of desk) body.now → IsTaken (site_in a.stamp body byte)
-    above_taken = site_taken z old.0.view a.stamp (above_of desk) (whole old.0.view old.0.standing old.1) (node n) k a.depth (above_is z k t desk old.0.view old.0.standing n on a is).deep
+    pub above_taken : (body : Bor Body) → IsFilled a.stamp.cell (above_of read_set) body.now → IsTaken (site_in a.stamp body byte)
+    above_taken = site_taken z old.0.view a.stamp (above_of read_set) (whole old.0.view old.0.standing old.1) (node n) k a.depth (above_is z k t read_set old.0.view old.0.standing n on a is).deep
         (shows old.0.view old.0.standing old.1) old.0.tree old.0.shape old.0.holds
 
     above_names : HasChild old.0.tree a.stamp.cell (node n) (take a.depth k)
     above_names = shows old.0.view old.0.standing old.1 old.0.tree old.0.shape old.0.holds
 
     -- the two are different cells, and both were read whole
-    module _ (known : AreKnown (node_of desk) 1 (size_of t.stamp.cell)) (upper lower : Bor Body) (upper-filled : IsFilled a.stamp.cell (above_of desk) upper.now)
-        (lower-filled : IsFilled t.stamp.cell (node_of desk) lower.now) where
+    module _ (known : AreKnown (node_of read_set) 1 (size_of t.stamp.cell)) (upper lower : Bor Body) (upper-filled : IsFilled a.stamp.cell (above_of read_set) upper.now)
+        (lower-filled : IsFilled t.stamp.cell (node_of read_set) lower.now) where
       apart : byte < 256 → (site_stamp (site_in a.stamp upper byte)).cell ≢ cell.Node n
       apart low = site_apart z old.0.tree old.0.shape old.0.view k a.depth n (site_in a.stamp upper byte) (fits old.0.view old.0.standing old.1 upper upper-filled low)
           (subst (λ (x : Stamp). HoldsAll old.0.view x old.0.tree) (sym (stamp_in a.stamp upper byte)) old.0.holds)
 
-      pub below_there : (u : View) → IsStanding z k t desk u → byte < 256 → HasBelow z u (site_in a.stamp upper byte) k a.depth (record { node = n; stamp = t.stamp; body = lower })
+      pub below_there : (u : View) → IsStanding z k t read_set u → byte < 256 → HasBelow z u (site_in a.stamp upper byte) k a.depth (record { node = n; stamp = t.stamp; body = lower })
       below_there u standing low = record {
         place = fits u standing old.1 upper upper-filled low;
-        read = read_whole z u t.stamp (node_of desk) (node_whole z k t desk u standing known) n on lower.now lower-filled;
+        read = read_whole z u t.stamp (node_of read_set) (node_whole z k t read_set u standing known) n on lower.now lower-filled;
         apart = apart low;
         fits = named_fits z old.0.tree a.stamp.cell (node n) (take a.depth k) old.0.shape above_names;
       }

@@ -6,21 +6,21 @@ use Rattle.art_find.specs.declared.verdicts.Verdict.{Verdict}
 use Rattle.art_find.specs.declared.verdicts.Verdict.TheVariants.{Empty}
 use Rattle.art_plan.specs.Insert.Cases.{IsAdd, IsInHand}
 use Rattle.art_plan.specs.declared.insert.leaves.NewLeaf.{NewLeaf}
-use Rattle.art_find.specs.Desks.{node_of}
+use Rattle.art_find.specs.ReadSets.{node_of}
 use Rattle.art_find.specs.Findings.{IsStanding}
-use Rattle.art_find.specs.declared.desks.Desk.{Desk}
-use Rattle.art_find.specs.declared.findings.Stand.{Stand}
+use Rattle.art_find.specs.declared.read_sets.ReadSet.{ReadSet}
+use Rattle.art_find.specs.declared.findings.Position.{Position}
 use Rattle.art_plan.specs.declared.sites.Site.TheVariants.{Root}
 use Rattle.art_step.specs.declared.views.Sizes.{Sizes}
 use Rattle.art_step.specs.declared.views.View.{View}
 use Rattle.art_plan.proofs.WholeCells.{node_whole, read_root}
 
-pub root_knows : (z : Sizes) (t : Stand) (desk : Desk) (new : NewLeaf) (u : View) → t.verdict ≡ Empty → IsSeen z new.key.items t desk → IsStanding z new.key.items t desk u → IsInHand z u new
+pub root_knows : (z : Sizes) (t : Position) (read_set : ReadSet) (new : NewLeaf) (u : View) → t.verdict ≡ Empty → IsSeen z new.key.items t read_set → IsStanding z new.key.items t read_set u → IsInHand z u new
     → IsAdd z u (Root t.stamp) new 0
-root_knows z t desk new u is seen standing hand =
+root_knows z t read_set new u is seen standing hand =
     let k = new.key.items in
     let says = subst (λ (f : Verdict). Says z k t.depth t.stamp f u) is standing.says in
-    let root = read_root z u t.stamp (node_of desk) (node_whole z k t desk u standing seen.whole) says.0 in
+    let root = read_root z u t.stamp (node_of read_set) (node_whole z k t read_set u standing seen.whole) says.0 in
     record {
       place = record { word = root.0; read = root.1; shows = λ s shape holds. (refl, says.1 s shape holds) };
       new_leaf = hand;

@@ -21,11 +21,11 @@ use Rattle.art_plan.specs.ChooseInsert.Seen.{WasSeen}
 use Rattle.art_plan.specs.ArtFind.Verdicts.{IsFound, Says}
 use Rattle.art_plan.specs.ArtFind.declared.verdicts.Verdict.{Verdict}
 use Rattle.art_plan.specs.ArtFind.declared.verdicts.Verdict.TheVariants.{Found}
-use Rattle.art_plan.specs.ArtFind.Desks.{above_of, node_of}
+use Rattle.art_plan.specs.ArtFind.ReadSets.{above_of, node_of}
 use Rattle.art_plan.specs.ArtFind.Findings.{IsStanding}
-use Rattle.art_plan.specs.ArtFind.declared.desks.Desk.{Desk}
+use Rattle.art_plan.specs.ArtFind.declared.read_sets.ReadSet.{ReadSet}
 use Rattle.art_plan.specs.ArtFind.declared.findings.Above.{Above}
-use Rattle.art_plan.specs.ArtFind.declared.findings.Stand.{Stand}
+use Rattle.art_plan.specs.ArtFind.declared.findings.Position.{Position}
 use Rattle.art_plan.specs.Puts.{IsTaken}
 use Rattle.art_plan.specs.Seen.{HasBelow}
 use Rattle.art_plan.specs.declared.sites.Site.{Site}
@@ -39,34 +39,34 @@ use Rattle.art_tree.proofs.ChildWords.{link_exact}
 use Rattle.art_tree.specs.Heaps.{heap_of}
 use Rattle.art_tree.specs.Tree.{StandsAt}
 
-module _ (z : Sizes) (t : Stand) (desk : Desk) (old : OldLeaf) (is : HasFound t old) where
+module _ (z : Sizes) (t : Position) (read_set : ReadSet) (old : OldLeaf) (is : HasFound t old) where
   abbrev k : List ℕ
   k = old.key.items
 
   abbrev last : ℕ
   last = get_or k (t.depth - 1) 0
 
-  says : (u : View) → IsStanding z k t desk u → Says z k t.depth t.stamp (Found old.number old.value) u
+  says : (u : View) → IsStanding z k t read_set u → Says z k t.depth t.stamp (Found old.number old.value) u
   says u standing = subst (λ (f : Verdict). Says z k t.depth t.stamp f u) is standing.says
 
-  child : (u : View) → IsStanding z k t desk u → Shows z u t.stamp (λ s. HasChild s t.stamp.cell (leaf old.number) (take t.depth k))
+  child : (u : View) → IsStanding z k t read_set u → Shows z u t.stamp (λ s. HasChild s t.stamp.cell (leaf old.number) (take t.depth k))
   child u standing s shape holds = ((says u standing).1 s shape holds).child
 
-  module _ (seen : IsSeen z k t desk) where
+  module _ (seen : IsSeen z k t read_set) where
     pub found_there : IsFound seen.0.tree t.stamp.cell old.number k t.depth old.value
     found_there = (says seen.0.view seen.0.standing).1 seen.0.tree seen.0.shape seen.0.holds
 
-    pub found_whole : IsWhole z seen.0.view t.stamp (node_of desk)
-    found_whole = node_whole z k t desk seen.0.view seen.0.standing seen.1
+    pub found_whole : IsWhole z seen.0.view t.stamp (node_of read_set)
+    found_whole = node_whole z k t read_set seen.0.view seen.0.standing seen.1
 
     pub found_deep : (n : Node) → t.stamp.cell ≡ cell.Node n → 0 < t.depth
-    found_deep = site_deep z seen.0.view t.stamp (node_of desk) found_whole (leaf old.number) k t.depth seen.0.standing.deep (child seen.0.view seen.0.standing) seen.0.tree seen.0.shape seen.0.holds
+    found_deep = site_deep z seen.0.view t.stamp (node_of read_set) found_whole (leaf old.number) k t.depth seen.0.standing.deep (child seen.0.view seen.0.standing) seen.0.tree seen.0.shape seen.0.holds
 
-    pub found_taken : (body : Bor Body) → IsFilled t.stamp.cell (node_of desk) body.now → IsTaken (site_in t.stamp body last)
-    found_taken = site_taken z seen.0.view t.stamp (node_of desk) found_whole (leaf old.number) k t.depth seen.0.standing.deep (child seen.0.view seen.0.standing) seen.0.tree seen.0.shape seen.0.holds
+    pub found_taken : (body : Bor Body) → IsFilled t.stamp.cell (node_of read_set) body.now → IsTaken (site_in t.stamp body last)
+    found_taken = site_taken z seen.0.view t.stamp (node_of read_set) found_whole (leaf old.number) k t.depth seen.0.standing.deep (child seen.0.view seen.0.standing) seen.0.tree seen.0.shape seen.0.holds
 
     -- in each tree that is as the stamp says the leaf has the key and the value
-    pub found_leaf : (u : View) → IsStanding z k t desk u → IsOldLeaf z u t.stamp old
+    pub found_leaf : (u : View) → IsStanding z k t read_set u → IsOldLeaf z u t.stamp old
     found_leaf u standing = record {
       row = λ s shape holds. let found = (says u standing).1 s shape holds in (found.is_key, found.is_value);
       fits = named_fits z seen.0.tree t.stamp.cell (leaf old.number) (take t.depth k) seen.0.shape found_there.child;
@@ -74,17 +74,17 @@ module _ (z : Sizes) (t : Stand) (desk : Desk) (old : OldLeaf) (is : HasFound t 
 
   -- ---- the cell is a node
 
-  module _ (seen : IsSeen z k t desk) (n : Node) (on : t.stamp.cell ≡ cell.Node n) where
+  module _ (seen : IsSeen z k t read_set) (n : Node) (on : t.stamp.cell ≡ cell.Node n) where
     names : (heap_of seen.0.tree).child n last ≡ Some (leaf old.number)
     names = (slot_has z seen.0.tree seen.0.shape (leaf old.number) k t.depth seen.0.standing.deep n
         (subst (λ (c : Cell). HasChild seen.0.tree c (leaf old.number) (take t.depth k)) on (found_there seen).child)).1
 
-    module _ (body : Body) (filled : IsFilled t.stamp.cell (node_of desk) body) where
+    module _ (body : Body) (filled : IsFilled t.stamp.cell (node_of read_set) body) where
       pub found_stands : StandsAt (heap_of seen.0.tree) (node n) (found_whole seen).path.0
-      found_stands = stands z seen.0.view t.stamp (node_of desk) (found_whole seen) seen.0.tree seen.0.shape seen.0.holds n on body filled
+      found_stands = stands z seen.0.view t.stamp (node_of read_set) (found_whole seen) seen.0.tree seen.0.shape seen.0.holds n on body filled
 
       pub found_meaning : IsBody body.layout (word_of body)
-      found_meaning = seen_body z seen.0.view t.stamp (node_of desk) (found_whole seen) seen.0.tree seen.0.shape seen.0.holds n on body filled
+      found_meaning = seen_body z seen.0.view t.stamp (node_of read_set) (found_whole seen) seen.0.tree seen.0.shape seen.0.holds n on body filled
 
       pub found_low : last < 256
       found_low = low_byte z seen.0.tree seen.0.shape n (found_whole seen).path.0 found_stands last (leaf old.number) names
@@ -93,23 +93,23 @@ module _ (z : Sizes) (t : Stand) (desk : Desk) (old : OldLeaf) (is : HasFound t 
       pub found_at : child_of body.layout (word_of body) last ≡ Some (child_word (leaf old.number))
       found_at =
           let named = word_named z seen.0.tree seen.0.shape n (found_whole seen).path.0 found_stands last (leaf old.number) names in
-          seen_child z seen.0.view t.stamp (node_of desk) (found_whole seen) seen.0.tree seen.0.shape seen.0.holds n on body filled last found_low
+          seen_child z seen.0.view t.stamp (node_of read_set) (found_whole seen) seen.0.tree seen.0.shape seen.0.holds n on body filled last found_low
           ∙ named.1
           ∙ ap Some (sym (link_exact named.0 (leaf old.number) named.2).0)
 
     -- what a plan knows that writes the cell above
-    pub found_below : (a : Above) → t.above ≡ Some a → WasSeen z k t desk a.stamp (above_of desk) → (upper lower : Bor Body) → IsFilled a.stamp.cell (above_of desk) upper.now
-        → IsFilled t.stamp.cell (node_of desk) lower.now → (u : View) (site : Site) → site ≡ site_in a.stamp upper (get_or k (a.depth - 1) 0) → IsStanding z k t desk u → get_or k (a.depth - 1) 0 < 256
+    pub found_below : (a : Above) → t.above ≡ Some a → WasSeen z k t read_set a.stamp (above_of read_set) → (upper lower : Bor Body) → IsFilled a.stamp.cell (above_of read_set) upper.now
+        → IsFilled t.stamp.cell (node_of read_set) lower.now → (u : View) (site : Site) → site ≡ site_in a.stamp upper (get_or k (a.depth - 1) 0) → IsStanding z k t read_set u → get_or k (a.depth - 1) 0 < 256
         → HasBelow z u site k a.depth (record { node = n; stamp = t.stamp; body = lower })
     found_below a at above upper lower upper-filled lower-filled u site named standing low =
         subst (λ (p : Site). HasBelow z u p k a.depth (record { node = n; stamp = t.stamp; body = lower })) (sym named)
-        (below_there z k t desk n on a at above seen.1 upper lower upper-filled lower-filled u standing low)
+        (below_there z k t read_set n on a at above seen.1 upper lower upper-filled lower-filled u standing low)
 
   -- ---- it goes alone
 
-  module _ (body : Bor Body) (filled : IsFilled t.stamp.cell (node_of desk) body.now) where
-    pub drop_knows : (u : View) → IsSeen z k t desk → IsStanding z k t desk u → last < 256 → IsDrop z u (site_in t.stamp body last) old t.depth
+  module _ (body : Bor Body) (filled : IsFilled t.stamp.cell (node_of read_set) body.now) where
+    pub drop_knows : (u : View) → IsSeen z k t read_set → IsStanding z k t read_set u → last < 256 → IsDrop z u (site_in t.stamp body last) old t.depth
     drop_knows u seen standing low = record {
-      place = site_fits z u t.stamp (node_of desk) (node_whole z k t desk u standing seen.1) (leaf old.number) k t.depth standing.deep (child u standing) body filled low;
+      place = site_fits z u t.stamp (node_of read_set) (node_whole z k t read_set u standing seen.1) (leaf old.number) k t.depth standing.deep (child u standing) body filled low;
       old_leaf = subst (λ (x : Stamp). IsOldLeaf z u x old) (sym (stamp_in t.stamp body last)) (found_leaf seen u standing);
     }

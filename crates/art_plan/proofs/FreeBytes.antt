@@ -16,7 +16,7 @@ use Rattle.art_plan.specs.declared.choose_insert.needs.Needs.{Needs}
 use Rattle.art_find.specs.Ways.{IsPastPrefix}
 use Rattle.art_find.specs.Verdicts.{IsFree, Says}
 use Rattle.art_find.specs.declared.verdicts.Verdict.{Verdict}
-use Rattle.art_find.specs.declared.verdicts.Verdict.TheVariants.{Free}
+use Rattle.art_find.specs.declared.verdicts.Verdict.TheVariants.{NoChild}
 use Rattle.art_plan.proofs.GrownNodes.{not_largest}
 use Rattle.art_plan.proofs.MadeNodes.{key_small}
 use Rattle.art_plan.proofs.WordsWithin.{past_prefix}
@@ -24,10 +24,10 @@ use Rattle.art_plan.specs.Insert.Cases.{IsAdd, IsInHand}
 use Rattle.art_plan.specs.Puts.{HasRoom, IsCrowded}
 use Rattle.art_plan.specs.declared.insert.leaves.NewLeaf.{NewLeaf}
 use Rattle.art_node.specs.Sizes.{larger}
-use Rattle.art_find.specs.Desks.{node_of}
+use Rattle.art_find.specs.ReadSets.{node_of}
 use Rattle.art_find.specs.Findings.{IsStanding}
-use Rattle.art_find.specs.declared.desks.Desk.{Desk}
-use Rattle.art_find.specs.declared.findings.Stand.{Stand}
+use Rattle.art_find.specs.declared.read_sets.ReadSet.{ReadSet}
+use Rattle.art_find.specs.declared.findings.Position.{Position}
 use Rattle.art_plan.specs.Seen.{HasAt}
 use Rattle.art_plan.specs.declared.sites.Site.{Site}
 use Rattle.art_plan.specs.declared.sites.Site.TheVariants.{Slot}
@@ -77,24 +77,24 @@ full_below true Node256 e = (refl, λ is. refl)
 full_below false k e = (refl, λ is. absurd (cc))
 
 -- where the cell above is written the node is full, and it needs the next larger one
-pub needs_full : (n : Node) (header : ℕ) → (needs_of (Free n header)).above ≡ true → (header % 512 ≡ places n.layout) × ((needs_of (Free n header)).node ≡ Some (larger n.layout))
+pub needs_full : (n : Node) (header : ℕ) → (needs_of (NoChild n header)).above ≡ true → (header % 512 ≡ places n.layout) × ((needs_of (NoChild n header)).node ≡ Some (larger n.layout))
 needs_full n header above =
     let is = full_above (eqb (header % 512) (places n.layout)) n.layout above in
     (eqb-true (header % 512) (places n.layout) is.0, is.1)
 
 -- else it needs none, and is not full: if it were, it would be one of the largest
-pub needs_room : (n : Node) (header : ℕ) → (needs_of (Free n header)).above ≡ false → ((needs_of (Free n header)).node ≡ None) × (header % 512 ≡ places n.layout → n.layout ≡ Node256)
+pub needs_room : (n : Node) (header : ℕ) → (needs_of (NoChild n header)).above ≡ false → ((needs_of (NoChild n header)).node ≡ None) × (header % 512 ≡ places n.layout → n.layout ≡ Node256)
 needs_room n header above =
     let is = full_below (eqb (header % 512) (places n.layout)) n.layout above in
     (is.0, λ full. is.1 (eq-eqb (header % 512) (places n.layout) full))
 
 -- ---- where it stands, and what was seen
 
-module _ (z : Sizes) (k : List ℕ) (t : Stand) (desk : Desk) (n : Node) (header : ℕ) (is : t.verdict ≡ Free n header) where
-  pub free_says : (u : View) → IsStanding z k t desk u → Says z k t.depth t.stamp (Free n header) u
+module _ (z : Sizes) (k : List ℕ) (t : Position) (read_set : ReadSet) (n : Node) (header : ℕ) (is : t.verdict ≡ NoChild n header) where
+  pub free_says : (u : View) → IsStanding z k t read_set u → Says z k t.depth t.stamp (NoChild n header) u
   free_says u standing = subst (λ (f : Verdict). Says z k t.depth t.stamp f u) is standing.says
 
-  module _ (seen : IsSeen z k t desk) where
+  module _ (seen : IsSeen z k t read_set) where
     pub free_there : IsFree seen.vouched.tree n k t.depth header
     free_there = (free_says seen.vouched.view seen.vouched.standing).2 seen.vouched.tree seen.vouched.shape seen.vouched.holds
 
@@ -104,22 +104,22 @@ module _ (z : Sizes) (k : List ℕ) (t : Stand) (desk : Desk) (n : Node) (header
     pub free_inside : t.depth < length k
     free_inside = (free_says seen.vouched.view seen.vouched.standing).1
 
-    pub free_whole : IsWhole z seen.vouched.view t.stamp (node_of desk)
-    free_whole = node_whole z k t desk seen.vouched.view seen.vouched.standing seen.whole
+    pub free_whole : IsWhole z seen.vouched.view t.stamp (node_of read_set)
+    free_whole = node_whole z k t read_set seen.vouched.view seen.vouched.standing seen.whole
 
-    module _ (body : Body) (filled : IsFilled t.stamp.cell (node_of desk) body) (low : get_or k t.depth 0 < 256) where
+    module _ (body : Body) (filled : IsFilled t.stamp.cell (node_of read_set) body) (low : get_or k t.depth 0 < 256) where
       layout_is : body.layout ≡ n.layout
       layout_is = (filled n free_on).layout
 
       header_is : word_of body 1 ≡ header
-      header_is = same_words z seen.vouched.view t.stamp (node_of desk) free_whole seen.vouched.tree seen.vouched.shape seen.vouched.holds n free_on body filled 1 (omega arith) (let high = past_prefix n.layout in omega (arith, high))
+      header_is = same_words z seen.vouched.view t.stamp (node_of read_set) free_whole seen.vouched.tree seen.vouched.shape seen.vouched.holds n free_on body filled 1 (omega arith) (let high = past_prefix n.layout in omega (arith, high))
           ∙ free_there.past.is_header
 
       meaning : IsBody body.layout (word_of body)
-      meaning = seen_body z seen.vouched.view t.stamp (node_of desk) free_whole seen.vouched.tree seen.vouched.shape seen.vouched.holds n free_on body filled
+      meaning = seen_body z seen.vouched.view t.stamp (node_of read_set) free_whole seen.vouched.tree seen.vouched.shape seen.vouched.holds n free_on body filled
 
       no_child : child_of body.layout (word_of body) (get_or k t.depth 0) ≡ None
-      no_child = seen_free z seen.vouched.view t.stamp (node_of desk) free_whole seen.vouched.tree seen.vouched.shape seen.vouched.holds n free_on body filled (get_or k t.depth 0) low free_there.free
+      no_child = seen_free z seen.vouched.view t.stamp (node_of read_set) free_whole seen.vouched.tree seen.vouched.shape seen.vouched.holds n free_on body filled (get_or k t.depth 0) low free_there.free
 
       -- the body is full where the header says so
       full_by : header % 512 ≡ places n.layout → IsFull body.layout (word_of body)
@@ -143,17 +143,17 @@ module _ (z : Sizes) (k : List ℕ) (t : Stand) (desk : Desk) (n : Node) (header
 
 -- ---- the plan where there is room
 
-module _ (z : Sizes) (t : Stand) (desk : Desk) (new : NewLeaf) (n : Node) (header : ℕ) (is : t.verdict ≡ Free n header) (body : Bor Body) (filled : IsFilled t.stamp.cell (node_of desk) body.now) where
+module _ (z : Sizes) (t : Position) (read_set : ReadSet) (new : NewLeaf) (n : Node) (header : ℕ) (is : t.verdict ≡ NoChild n header) (body : Bor Body) (filled : IsFilled t.stamp.cell (node_of read_set) body.now) where
   abbrev k : List ℕ
   k = new.key.items
 
-  pub byte_knows : (u : View) → IsSeen z k t desk → IsStanding z k t desk u → IsInHand z u new → IsAdd z u (Slot t.stamp body (get_or k t.depth 0)) new (t.depth + 1)
+  pub byte_knows : (u : View) → IsSeen z k t read_set → IsStanding z k t read_set u → IsInHand z u new → IsAdd z u (Slot t.stamp body (get_or k t.depth 0)) new (t.depth + 1)
   byte_knows u seen standing hand =
-      let says = free_says z k t desk n header is u standing in
+      let says = free_says z k t read_set n header is u standing in
       record {
         place = record {
           node = n;
-          read = read_whole z u t.stamp (node_of desk) (node_whole z k t desk u standing seen.whole) n says.0 body.now filled;
+          read = read_whole z u t.stamp (node_of read_set) (node_whole z k t read_set u standing seen.whole) n says.0 body.now filled;
           low = key_small z u new.number k new.value t.depth hand;
           shows = λ s shape holds. free_has s n k t.depth header says.1 (says.2 s shape holds);
         };

@@ -15,9 +15,9 @@ use Rattle.art_plan.specs.ChooseRemove.Losses.{few_of, loss_at, loss_in, loss_of
 use Rattle.art_plan.specs.declared.choose_remove.losses.Loss.TheVariants.{Leaf, Merges, Shrinks}
 use Rattle.art_plan.specs.ChooseInsert.Bodies.{IsFilled, site_by, site_in}
 use Rattle.art_node.specs.Sizes.{smaller}
-use Rattle.art_plan.specs.ArtFind.Desks.{node_of}
-use Rattle.art_plan.specs.ArtFind.declared.desks.Desk.{Desk}
-use Rattle.art_plan.specs.ArtFind.declared.findings.Stand.{Stand}
+use Rattle.art_plan.specs.ArtFind.ReadSets.{node_of}
+use Rattle.art_plan.specs.ArtFind.declared.read_sets.ReadSet.{ReadSet}
+use Rattle.art_plan.specs.ArtFind.declared.findings.Position.{Position}
 use Rattle.art_plan.specs.Puts.{HasChild}
 use Rattle.art_plan.specs.Remove.Removals.{IsSparse, KeepsTwo}
 
@@ -58,14 +58,14 @@ not_smallest Node16 count three few = (λ e. absurd (cc), omega (arith, few))
 not_smallest Node48 count three few = (λ e. absurd (cc), omega (arith, few))
 not_smallest Node256 count three few = (λ e. absurd (cc), omega (arith, few))
 
-module _ (t : Stand) (desk : Desk) where
+module _ (t : Position) (read_set : ReadSet) where
   -- what the header says of the node's body
-  pub loss_on : (n : Node) → t.stamp.cell ≡ cell.Node n → (body : Body) → IsFilled t.stamp.cell (node_of desk) body → loss_at t desk ≡ loss_in n.layout (count_of (word_of body))
+  pub loss_on : (n : Node) → t.stamp.cell ≡ cell.Node n → (body : Body) → IsFilled t.stamp.cell (node_of read_set) body → loss_at t read_set ≡ loss_in n.layout (count_of (word_of body))
   loss_on n on body filled =
       ap (λ (header : ℕ). loss_of t.stamp.cell header) (sym ((filled n on).words 1))
       ∙ ap (λ (c : Cell). loss_of c (word_of body 1)) on
 
-  pub keeps_two : (body : Bor Body) (byte : ℕ) → IsFilled t.stamp.cell (node_of desk) body.now → loss_at t desk ≢ Merges → KeepsTwo (site_in t.stamp body byte)
+  pub keeps_two : (body : Bor Body) (byte : ℕ) → IsFilled t.stamp.cell (node_of read_set) body.now → loss_at t read_set ≢ Merges → KeepsTwo (site_in t.stamp body byte)
   keeps_two body byte filled stays = by_cell t.stamp.cell refl
     where
       by_cell : (c : Cell) → t.stamp.cell ≡ c → KeepsTwo (site_by c t.stamp body byte)
@@ -73,25 +73,25 @@ module _ (t : Stand) (desk : Desk) where
       by_cell (cell.Leaf l) on = tt
       by_cell (cell.Node n) on = stays_three n.layout (count_of (word_of body.now)) (λ e. stays (loss_on n on body.now filled ∙ e))
 
-  module _ (goes : loss_at t desk ≡ Merges) where
+  module _ (goes : loss_at t read_set ≡ Merges) where
     -- only a node goes
     pub goes_node : (n : Node) × (t.stamp.cell ≡ cell.Node n)
     goes_node = by_cell t.stamp.cell refl
       where
         by_cell : (c : Cell) → t.stamp.cell ≡ c → (n : Node) × (t.stamp.cell ≡ cell.Node n)
         by_cell cell.Anchor at =
-            let no : loss_at t desk ≡ Leaf = ap (λ (c : Cell). loss_of c (unwrap_or (word_read (node_of desk) 1) 0)) at in
+            let no : loss_at t read_set ≡ Leaf = ap (λ (c : Cell). loss_of c (unwrap_or (word_read (node_of read_set) 1) 0)) at in
             absurd (cc)
         by_cell (cell.Leaf l) at =
-            let no : loss_at t desk ≡ Leaf = ap (λ (c : Cell). loss_of c (unwrap_or (word_read (node_of desk) 1) 0)) at in
+            let no : loss_at t read_set ≡ Leaf = ap (λ (c : Cell). loss_of c (unwrap_or (word_read (node_of read_set) 1) 0)) at in
             absurd (cc)
         by_cell (cell.Node n) at = (n, at)
 
-    pub goes_two : (n : Node) → t.stamp.cell ≡ cell.Node n → (body : Body) → IsFilled t.stamp.cell (node_of desk) body → count_of (word_of body) < 3
+    pub goes_two : (n : Node) → t.stamp.cell ≡ cell.Node n → (body : Body) → IsFilled t.stamp.cell (node_of read_set) body → count_of (word_of body) < 3
     goes_two n on body filled = goes_few n.layout (count_of (word_of body)) (sym (loss_on n on body filled) ∙ goes)
 
-  module _ (m : Layout) (goes : loss_at t desk ≡ Shrinks m) where
-    module _ (n : Node) (on : t.stamp.cell ≡ cell.Node n) (body : Body) (filled : IsFilled t.stamp.cell (node_of desk) body) where
+  module _ (m : Layout) (goes : loss_at t read_set ≡ Shrinks m) where
+    module _ (n : Node) (on : t.stamp.cell ≡ cell.Node n) (body : Body) (filled : IsFilled t.stamp.cell (node_of read_set) body) where
       gives : GivesWay n.layout (count_of (word_of body)) m
       gives = gives_way n.layout (count_of (word_of body)) m (sym (loss_on n on body filled) ∙ goes)
 

@@ -24,7 +24,7 @@ mod MovedPuts
 pub mod NamedChildren
 mod OtherChildren
 mod OtherLeaves
-mod OtherPrefixes
+mod PrefixMismatches
 mod PlannedAdds
 mod PlannedDrops
 mod PlannedForks

@@ -20,12 +20,12 @@ use Rattle.art_plan.proofs.SeenBodies.{seen_body, seen_child}
 use Rattle.art_plan.proofs.WholeCells.{IsWhole, filled_agrees, read_whole}
 use Rattle.art_plan.specs.ChooseInsert.Bodies.{IsFilled, site_in}
 use Rattle.art_path.specs.declared.prefixes.Parts.{Parts}
-use Rattle.art_plan.specs.ArtFind.Desks.{above_of, node_of}
+use Rattle.art_plan.specs.ArtFind.ReadSets.{above_of, node_of}
 use Rattle.art_plan.specs.ArtFind.Findings.{IsStanding}
 use Rattle.art_plan.specs.ArtFind.Rereadings.{AreKnown}
-use Rattle.art_plan.specs.ArtFind.declared.desks.Desk.{Desk}
+use Rattle.art_plan.specs.ArtFind.declared.read_sets.ReadSet.{ReadSet}
 use Rattle.art_plan.specs.ArtFind.declared.findings.Above.{Above}
-use Rattle.art_plan.specs.ArtFind.declared.findings.Stand.{Stand}
+use Rattle.art_plan.specs.ArtFind.declared.findings.Position.{Position}
 use Rattle.art_plan.proofs.SiteWords.{children_read, not_own_child}
 use Rattle.art_plan.specs.Seen.{site_stamp}
 use Rattle.art_plan.specs.declared.sites.Site.{Site}
@@ -58,51 +58,51 @@ module _ (z : Sizes) (lower : Lower) (reads : List (Option ℕ)) (seen : IsLower
 
 -- ---- the node
 
-module _ (z : Sizes) (t : Stand) (desk : Desk) (old : OldLeaf) (is : HasFound t old) (seen : IsSeen z old.key.items t desk) (n : Node) (on : t.stamp.cell ≡ cell.Node n) where
+module _ (z : Sizes) (t : Position) (read_set : ReadSet) (old : OldLeaf) (is : HasFound t old) (seen : IsSeen z old.key.items t read_set) (n : Node) (on : t.stamp.cell ≡ cell.Node n) where
   abbrev last : ℕ
   last = get_or old.key.items (t.depth - 1) 0
 
   abbrev s : Cells
   s = seen.0.tree
 
-  whole : IsWhole z seen.0.view t.stamp (node_of desk)
-  whole = found_whole z t desk old is seen
+  whole : IsWhole z seen.0.view t.stamp (node_of read_set)
+  whole = found_whole z t read_set old is seen
 
-  pub node_bytes : prefix_read (node_of desk) ≢ None
-  node_bytes = prefix_seen z seen.0.view t.stamp (node_of desk) whole s seen.0.shape seen.0.holds n on
+  pub node_bytes : prefix_read (node_of read_set) ≢ None
+  node_bytes = prefix_seen z seen.0.view t.stamp (node_of read_set) whole s seen.0.shape seen.0.holds n on
 
   -- is no child of its own
-  pub lower_apart : (body : Body) → IsFilled t.stamp.cell (node_of desk) body → (byte : ℕ) (m : Node) → HasPair body last (child_word (leaf old.number)) byte (child_word (node m)) → m ≢ n
+  pub lower_apart : (body : Body) → IsFilled t.stamp.cell (node_of read_set) body → (byte : ℕ) (m : Node) → HasPair body last (child_word (leaf old.number)) byte (child_word (node m)) → m ≢ n
   unfolding whole
   lower_apart body filled byte m pair same =
       let q = whole.path.0 in
-      let there = sym (seen_child z seen.0.view t.stamp (node_of desk) whole s seen.0.shape seen.0.holds n on body filled byte pair.low_beside) ∙ pair.another in
-      let read = read_whole z seen.0.view t.stamp (node_of desk) whole n on body filled in
+      let there = sym (seen_child z seen.0.view t.stamp (node_of read_set) whole s seen.0.shape seen.0.holds n on body filled byte pair.low_beside) ∙ pair.another in
+      let read = read_whole z seen.0.view t.stamp (node_of read_set) whole n on body filled in
       let fits = fits_there z (node m) (children_read z seen.0.view t.stamp n body read pair.meaning byte (child_word (node m)) pair.low_beside pair.another) in
       let names = child_is s n byte ∙ child_named (child_of n.layout (s (cell.Node n))) byte (node m) pair.low_beside fits there in
-      not_own_child z s seen.0.shape n m byte (path_past (heap_of s) n q byte) ((q, found_stands z t desk old is seen n on body filled, refl), names) (sym same)
+      not_own_child z s seen.0.shape n m byte (path_past (heap_of s) n q byte) ((q, found_stands z t read_set old is seen n on body filled, refl), names) (sym same)
 
 -- ---- the plan
 
-module _ (t : Stand) (desk : Desk) (old : OldLeaf) (a : Above) (at : t.above ≡ Some a) (upper : Bor Body) (upper-filled : IsFilled a.stamp.cell (above_of desk) upper.now) (site : Site)
-    (named : site ≡ site_in a.stamp upper (get_or old.key.items (a.depth - 1) 0)) (lower : Lower) (reads : List (Option ℕ)) (on-low : lower.stamp.cell ≡ cell.Node lower.node) (parts : Parts) (are : ArePartsOf desk lower reads parts) where
+module _ (t : Position) (read_set : ReadSet) (old : OldLeaf) (a : Above) (at : t.above ≡ Some a) (upper : Bor Body) (upper-filled : IsFilled a.stamp.cell (above_of read_set) upper.now) (site : Site)
+    (named : site ≡ site_in a.stamp upper (get_or old.key.items (a.depth - 1) 0)) (lower : Lower) (reads : List (Option ℕ)) (on-low : lower.stamp.cell ≡ cell.Node lower.node) (parts : Parts) (are : ArePartsOf read_set lower reads parts) where
   -- the cell above is another one
   third : a.stamp.cell ≢ lower.stamp.cell → (site_stamp site).cell ≢ cell.Node lower.node
   third apart e = apart (sym (ap (λ (x : Stamp). x.cell) (ap site_stamp named ∙ stamp_in a.stamp upper (get_or old.key.items (a.depth - 1) 0))) ∙ e ∙ sym on-low)
 
-  pub merge_node_knows : (low : Bor Body) → IsFilled lower.stamp.cell reads low.now → (z : Sizes) (u : View) → HasFound t old → (n : Node) → t.stamp.cell ≡ cell.Node n → HasOther t desk old lower.byte (node lower.node) → (body : Bor Body) → IsFilled t.stamp.cell (node_of desk) body.now
-      → AreSeen z old.key.items t desk → IsStanding z old.key.items t desk u → StillKnown z u lower reads → AreKnown reads 1 (size_of lower.stamp.cell) → get_or old.key.items (a.depth - 1) 0 < 256
+  pub merge_node_knows : (low : Bor Body) → IsFilled lower.stamp.cell reads low.now → (z : Sizes) (u : View) → HasFound t old → (n : Node) → t.stamp.cell ≡ cell.Node n → HasOther t read_set old lower.byte (node lower.node) → (body : Bor Body) → IsFilled t.stamp.cell (node_of read_set) body.now
+      → AreSeen z old.key.items t read_set → IsStanding z old.key.items t read_set u → StillKnown z u lower reads → AreKnown reads 1 (size_of lower.stamp.cell) → get_or old.key.items (a.depth - 1) 0 < 256
       → a.stamp.cell ≢ lower.stamp.cell
       → IsMergeNode z u site old a.depth (record { node = n; stamp = t.stamp; body = body }) (get_or old.key.items (t.depth - 1) 0) (record { node = lower.node; stamp = lower.stamp; body = low }) parts
   merge_node_knows low low-filled z u is n on other body filled seen standing still known small apart =
       let pair = other.pair body.now (filled other.node other.is) in
       record {
-        there = found_below z t desk old is seen.node n on a at (seen.above a at) upper body upper-filled filled u site named standing small;
-        old_leaf = found_leaf z t desk old is seen.node u standing;
+        there = found_below z t read_set old is seen.node n on a at (seen.above a at) upper body upper-filled filled u site named standing small;
+        old_leaf = found_leaf z t read_set old is seen.node u standing;
         pair = subst (λ (b : ℕ). HasPair body.now (get_or old.key.items (t.depth - 1) 0) (child_word (leaf old.number)) b (child_word (node lower.node))) (sym are.byte) pair;
         read = read_whole z u lower.stamp reads (lower_whole z u lower reads still known) lower.node on-low low.now low-filled;
         third = third apart;
-        other = lower_apart z t desk old is seen.node n on body.now filled lower.byte lower.node pair;
-        front = sym (are.front (word_of body.now) (filled_agrees n (node_of desk) body.now (filled n on)));
+        other = lower_apart z t read_set old is seen.node n on body.now filled lower.byte lower.node pair;
+        front = sym (are.front (word_of body.now) (filled_agrees n (node_of read_set) body.now (filled n on)));
         rest = sym (are.rest (word_of low.now) (filled_agrees lower.node reads low.now (low-filled lower.node on-low)));
       }

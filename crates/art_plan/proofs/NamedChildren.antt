@@ -4,10 +4,10 @@ use Rattle.art_cell.specs.Children.{link_of}
 use Rattle.art_cell.specs.declared.cells.Link.{Link}
 use Rattle.art_plan.specs.ChooseRemove.Others.{NamesChild}
 use Rattle.art_plan.specs.ArtFind.Descents.{WasNamed}
-use Rattle.art_plan.specs.ArtFind.Desks.{node_of}
+use Rattle.art_plan.specs.ArtFind.ReadSets.{node_of}
 use Rattle.art_plan.specs.ArtFind.Kept.{IsKept}
-use Rattle.art_plan.specs.ArtFind.declared.desks.Desk.{Desk}
-use Rattle.art_plan.specs.ArtFind.declared.findings.Stand.{Stand}
+use Rattle.art_plan.specs.ArtFind.declared.read_sets.ReadSet.{ReadSet}
+use Rattle.art_plan.specs.ArtFind.declared.findings.Position.{Position}
 use Rattle.art_step.specs.Views.{IsChildWord, IsNumber}
 use Rattle.art_step.specs.declared.views.Fact.TheVariants.{Word}
 use Rattle.art_step.specs.declared.views.Sizes.{Sizes}
@@ -24,8 +24,8 @@ names_there z word d there names = ⊎_elim
     there
 
 -- so the pass may begin it, if it is a node
-pub named_there : (z : Sizes) (u : View) (t : Stand) (desk : Desk) (d : Link) → IsKept z u t.stamp (node_of desk) → NamesChild t desk d → WasNamed t.stamp d u × IsNumber z d
-named_there z u t desk d words child =
+pub named_there : (z : Sizes) (u : View) (t : Position) (read_set : ReadSet) (d : Link) → IsKept z u t.stamp (node_of read_set) → NamesChild t read_set d → WasNamed t.stamp d u × IsNumber z d
+named_there z u t read_set d words child =
     let was = words.each child.place child.word child.read in (
       record { fact = Word child.place child.word; noted = was.noted; names = child.names },
       names_there z child.word d (was.form.child child.child) child.names,

@@ -23,12 +23,12 @@ use Rattle.art_plan.specs.ChooseRemove.Seen.{AreSeen, IsSeen}
 use Rattle.art_plan.specs.declared.choose_remove.losses.Loss.TheVariants.{Merges}
 use Rattle.art_plan.proofs.SeenBodies.{low_byte, seen_child, word_named}
 use Rattle.art_plan.specs.ChooseInsert.Bodies.{HasWords, IsFilled, site_in}
-use Rattle.art_plan.specs.ArtFind.Desks.{above_of, node_of}
+use Rattle.art_plan.specs.ArtFind.ReadSets.{above_of, node_of}
 use Rattle.art_plan.specs.ArtFind.Findings.{IsStanding}
 use Rattle.art_plan.specs.ArtFind.Rereadings.{AreKnown}
-use Rattle.art_plan.specs.ArtFind.declared.desks.Desk.{Desk}
+use Rattle.art_plan.specs.ArtFind.declared.read_sets.ReadSet.{ReadSet}
 use Rattle.art_plan.specs.ArtFind.declared.findings.Above.{Above}
-use Rattle.art_plan.specs.ArtFind.declared.findings.Stand.{Stand}
+use Rattle.art_plan.specs.ArtFind.declared.findings.Position.{Position}
 use Rattle.art_plan.specs.declared.sites.Site.{Site}
 use Rattle.art_plan.specs.Remove.Cases.{IsMergeLeaf}
 use Rattle.art_plan.specs.Remove.Removals.{HasPair}
@@ -55,7 +55,7 @@ record HasTwo (k : Layout) (w : Words) : Type 0 where
 
 -- ---- which it is
 
-module _ (z : Sizes) (t : Stand) (desk : Desk) (old : OldLeaf) (is : HasFound t old) (seen : IsSeen z old.key.items t desk) (n : Node) (on : t.stamp.cell ≡ cell.Node n) where
+module _ (z : Sizes) (t : Position) (read_set : ReadSet) (old : OldLeaf) (is : HasFound t old) (seen : IsSeen z old.key.items t read_set) (n : Node) (on : t.stamp.cell ≡ cell.Node n) where
   abbrev last : ℕ
   last = get_or old.key.items (t.depth - 1) 0
 
@@ -66,18 +66,18 @@ module _ (z : Sizes) (t : Stand) (desk : Desk) (old : OldLeaf) (is : HasFound t 
   w = s (cell.Node n)
 
   abbrev q : List ℕ
-  q = (found_whole z t desk old is seen).path.0
+  q = (found_whole z t read_set old is seen).path.0
 
   on_path : StandsAt (heap_of s) (node n) q
-  on_path = subst (λ (c : Cell). CellAt s c q) on (seen.0.holds (note_of t.stamp (Starts q)) (found_whole z t desk old is seen).path.1 refl)
+  on_path = subst (λ (c : Cell). CellAt s c q) on (seen.0.holds (note_of t.stamp (Starts q)) (found_whole z t read_set old is seen).path.1 refl)
 
   -- its words in the tree are those that were read
-  pub read_all : IsReadOf n.layout (node_of desk) w
+  pub read_all : IsReadOf n.layout (node_of read_set) w
   read_all = record {
     body = (seen.0.shape.nodes n q on_path).body;
     agrees = λ place word read.
-        subst (λ (c : Cell). s c place ≡ word) on (seen.0.holds (note_of t.stamp (Word place word)) ((found_whole z t desk old is seen).words.each place word read).noted refl);
-    known = subst (λ (c : Cell). AreKnown (node_of desk) 1 (size_of c)) on seen.1;
+        subst (λ (c : Cell). s c place ≡ word) on (seen.0.holds (note_of t.stamp (Word place word)) ((found_whole z t read_set old is seen).words.each place word read).noted refl);
+    known = subst (λ (c : Cell). AreKnown (node_of read_set) 1 (size_of c)) on seen.1;
   }
 
   -- a node of a tree has two children at least
@@ -120,9 +120,9 @@ module _ (z : Sizes) (t : Stand) (desk : Desk) (old : OldLeaf) (is : HasFound t 
         let no : None ≡ Some names.0 = sym none ∙ names.1 in
         absurd (cc)
 
-  module _ (goes : loss_at t desk ≡ Merges) (body : Body) (filled : IsFilled t.stamp.cell (node_of desk) body) where
+  module _ (goes : loss_at t read_set ≡ Merges) (body : Body) (filled : IsFilled t.stamp.cell (node_of read_set) body) where
     same_child : (b : ℕ) → b < 256 → child_of body.layout (word_of body) b ≡ child_of n.layout w b
-    same_child = seen_child z seen.0.view t.stamp (node_of desk) (found_whole z t desk old is seen) s seen.0.shape seen.0.holds n on body filled
+    same_child = seen_child z seen.0.view t.stamp (node_of read_set) (found_whole z t read_set old is seen) s seen.0.shape seen.0.holds n on body filled
 
     -- where the node goes it has no third
     other_two : count_of (word_of body) ≡ 2
@@ -131,24 +131,24 @@ module _ (z : Sizes) (t : Stand) (desk : Desk) (old : OldLeaf) (is : HasFound t 
         let low = two_there.low in
         let more = two_listed (child_of body.layout (word_of body)) two_there.one two_there.other two_there.one_word two_there.other_word (omega (arith, less, low)) low (λ e. omega (arith, e, less))
         (same_child two_there.one (omega (arith, less, low)) ∙ two_there.one_is) (same_child two_there.other low ∙ two_there.other_is) in
-        let few = goes_two t desk goes n on body filled in
-        let counted = (found_meaning z t desk old is seen n on body filled).counted in
+        let few = goes_two t read_set goes n on body filled in
+        let counted = (found_meaning z t read_set old is seen n on body filled).counted in
         omega (arith, more, few, counted)
 
     pub other_pair : (beside word : ℕ) → beside < 256 → beside ≢ last → child_of n.layout w beside ≡ Some word → (d : Link) → link_of word ≡ Some d
         → HasPair body last (child_word (leaf old.number)) beside (child_word d)
     other_pair beside word low apart there d names = record {
-      meaning = found_meaning z t desk old is seen n on body filled;
+      meaning = found_meaning z t read_set old is seen n on body filled;
       two = other_two;
-      low = found_low z t desk old is seen n on body filled;
-      one = found_at z t desk old is seen n on body filled;
+      low = found_low z t read_set old is seen n on body filled;
+      one = found_at z t read_set old is seen n on body filled;
       low_beside = low;
       another = same_child beside low ∙ there ∙ ap Some (sym (link_exact word d names).0);
       apart = apart;
     }
 
   -- so have all bodies with the words that were read
-  pub other_has : loss_at t desk ≡ Merges → (beside word : ℕ) → beside < 256 → beside ≢ last → child_of n.layout w beside ≡ Some word → (d : Link) → link_of word ≡ Some d → HasOther t desk old beside d
+  pub other_has : loss_at t read_set ≡ Merges → (beside word : ℕ) → beside < 256 → beside ≢ last → child_of n.layout w beside ≡ Some word → (d : Link) → link_of word ≡ Some d → HasOther t read_set old beside d
   other_has goes beside word low apart there d names = record {
     node = n;
     is = on;
@@ -157,20 +157,20 @@ module _ (z : Sizes) (t : Stand) (desk : Desk) (old : OldLeaf) (is : HasFound t 
         (λ (m : Node) (at : t.stamp.cell ≡ cell.Node m).
         let same : cell.Node n ≡ cell.Node m = sym on ∙ at in
         let one : n ≡ m = cc in
-        subst (λ (p : Node). HasWords p (node_of desk) body) one has)
+        subst (λ (p : Node). HasWords p (node_of read_set) body) one has)
         beside word low apart there d names;
   }
 
 -- ---- the plan
 
-module _ (t : Stand) (desk : Desk) (old : OldLeaf) (a : Above) (at : t.above ≡ Some a) (upper : Bor Body) (upper-filled : IsFilled a.stamp.cell (above_of desk) upper.now) (site : Site)
+module _ (t : Position) (read_set : ReadSet) (old : OldLeaf) (a : Above) (at : t.above ≡ Some a) (upper : Bor Body) (upper-filled : IsFilled a.stamp.cell (above_of read_set) upper.now) (site : Site)
     (named : site ≡ site_in a.stamp upper (get_or old.key.items (a.depth - 1) 0)) where
   -- the site in the cell above gets the other leaf
-  pub merge_leaf_knows : (z : Sizes) (u : View) → HasFound t old → (n : Node) → t.stamp.cell ≡ cell.Node n → (beside l : ℕ) (other : HasOther t desk old beside (leaf l)) (lower : Bor Body) → IsFilled t.stamp.cell (node_of desk) lower.now
-      → AreSeen z old.key.items t desk → IsStanding z old.key.items t desk u → get_or old.key.items (a.depth - 1) 0 < 256
+  pub merge_leaf_knows : (z : Sizes) (u : View) → HasFound t old → (n : Node) → t.stamp.cell ≡ cell.Node n → (beside l : ℕ) (other : HasOther t read_set old beside (leaf l)) (lower : Bor Body) → IsFilled t.stamp.cell (node_of read_set) lower.now
+      → AreSeen z old.key.items t read_set → IsStanding z old.key.items t read_set u → get_or old.key.items (a.depth - 1) 0 < 256
       → IsMergeLeaf z u site old a.depth (record { node = n; stamp = t.stamp; body = lower }) (get_or old.key.items (t.depth - 1) 0) beside l
   merge_leaf_knows z u is n on beside l other lower lower-filled seen standing low = record {
-    there = found_below z t desk old is seen.node n on a at (seen.above a at) upper lower upper-filled lower-filled u site named standing low;
-    old_leaf = found_leaf z t desk old is seen.node u standing;
+    there = found_below z t read_set old is seen.node n on a at (seen.above a at) upper lower upper-filled lower-filled u site named standing low;
+    old_leaf = found_leaf z t read_set old is seen.node u standing;
     pair = other.pair lower.now (lower-filled other.node other.is);
   }

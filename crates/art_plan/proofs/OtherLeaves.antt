@@ -10,17 +10,17 @@ use Rattle.art_plan.specs.ChooseInsert.Bodies.{IsFilled, site_in}
 use Rattle.art_plan.specs.ChooseInsert.Needs.{needs_of}
 use Rattle.art_plan.specs.ChooseInsert.Plans.{HasNeeded}
 use Rattle.art_plan.specs.ChooseInsert.Seen.{IsSeen}
-use Rattle.art_find.specs.Verdicts.{IsOtherLeaf, Says}
+use Rattle.art_find.specs.Verdicts.{IsLeafMismatch, Says}
 use Rattle.art_find.specs.declared.verdicts.Verdict.{Verdict}
-use Rattle.art_find.specs.declared.verdicts.Verdict.TheVariants.{OtherLeaf}
+use Rattle.art_find.specs.declared.verdicts.Verdict.TheVariants.{LeafMismatch}
 use Rattle.art_plan.proofs.MadeNodes.{key_small}
 use Rattle.art_plan.specs.Insert.Cases.{IsForkLeaf, IsInHand}
 use Rattle.art_plan.specs.Puts.{IsTaken}
 use Rattle.art_plan.specs.declared.insert.leaves.NewLeaf.{NewLeaf}
-use Rattle.art_find.specs.Desks.{node_of}
+use Rattle.art_find.specs.ReadSets.{node_of}
 use Rattle.art_find.specs.Findings.{IsStanding}
-use Rattle.art_find.specs.declared.desks.Desk.{Desk}
-use Rattle.art_find.specs.declared.findings.Stand.{Stand}
+use Rattle.art_find.specs.declared.read_sets.ReadSet.{ReadSet}
+use Rattle.art_find.specs.declared.findings.Position.{Position}
 use Rattle.art_step.specs.Shows.{HasChild, Shows}
 use Rattle.art_step.specs.declared.views.Sizes.{Sizes}
 use Rattle.art_step.specs.declared.views.Stamp.{Stamp}
@@ -30,14 +30,14 @@ use Rattle.art_tree.specs.Tree.{Begins}
 use Rattle.art_plan.proofs.ChildSites.{site_deep, site_fits, site_taken, stamp_in}
 use Rattle.art_plan.proofs.WholeCells.{IsWhole, node_whole}
 
-module _ (z : Sizes) (k : List ℕ) (t : Stand) (desk : Desk) (l at byte : ℕ) (is : t.verdict ≡ OtherLeaf l at byte) where
+module _ (z : Sizes) (k : List ℕ) (t : Position) (read_set : ReadSet) (l at byte : ℕ) (is : t.verdict ≡ LeafMismatch l at byte) where
   abbrev last : ℕ
   last = get_or k (t.depth - 1) 0
 
   -- ---- where it stands
 
-  module _ (u : View) (standing : IsStanding z k t desk u) where
-    says : Says z k t.depth t.stamp (OtherLeaf l at byte) u
+  module _ (u : View) (standing : IsStanding z k t read_set u) where
+    says : Says z k t.depth t.stamp (LeafMismatch l at byte) u
     says = subst (λ (f : Verdict). Says z k t.depth t.stamp f u) is standing.says
 
     child : Shows z u t.stamp (λ s. HasChild s t.stamp.cell (leaf l) (take t.depth k))
@@ -45,12 +45,12 @@ module _ (z : Sizes) (k : List ℕ) (t : Stand) (desk : Desk) (l at byte : ℕ) 
 
   -- ---- what was seen
 
-  module _ (seen : IsSeen z k t desk) where
-    there : IsOtherLeaf seen.vouched.tree t.stamp.cell l k t.depth at byte
+  module _ (seen : IsSeen z k t read_set) where
+    there : IsLeafMismatch seen.vouched.tree t.stamp.cell l k t.depth at byte
     there = (says seen.vouched.view seen.vouched.standing).2 seen.vouched.tree seen.vouched.shape seen.vouched.holds
 
-    whole : IsWhole z seen.vouched.view t.stamp (node_of desk)
-    whole = node_whole z k t desk seen.vouched.view seen.vouched.standing seen.whole
+    whole : IsWhole z seen.vouched.view t.stamp (node_of read_set)
+    whole = node_whole z k t read_set seen.vouched.view seen.vouched.standing seen.whole
 
     pub leaf_behind : t.depth ≤ at
     leaf_behind = there.behind
@@ -62,26 +62,26 @@ module _ (z : Sizes) (k : List ℕ) (t : Stand) (desk : Desk) (l at byte : ℕ) 
     leaf_apart = there.parts.other
 
     pub leaf_deep : (n : Node) → t.stamp.cell ≡ cell.Node n → 0 < t.depth
-    leaf_deep = site_deep z seen.vouched.view t.stamp (node_of desk) whole (leaf l) k t.depth seen.vouched.standing.deep (child seen.vouched.view seen.vouched.standing)
+    leaf_deep = site_deep z seen.vouched.view t.stamp (node_of read_set) whole (leaf l) k t.depth seen.vouched.standing.deep (child seen.vouched.view seen.vouched.standing)
         seen.vouched.tree seen.vouched.shape seen.vouched.holds
 
-    pub leaf_taken : (body : Bor Body) → IsFilled t.stamp.cell (node_of desk) body.now → IsTaken (site_in t.stamp body last)
-    leaf_taken = site_taken z seen.vouched.view t.stamp (node_of desk) whole (leaf l) k t.depth seen.vouched.standing.deep (child seen.vouched.view seen.vouched.standing)
+    pub leaf_taken : (body : Bor Body) → IsFilled t.stamp.cell (node_of read_set) body.now → IsTaken (site_in t.stamp body last)
+    leaf_taken = site_taken z seen.vouched.view t.stamp (node_of read_set) whole (leaf l) k t.depth seen.vouched.standing.deep (child seen.vouched.view seen.vouched.standing)
         seen.vouched.tree seen.vouched.shape seen.vouched.holds
 
 -- ---- the plan
 
-module _ (z : Sizes) (t : Stand) (desk : Desk) (new : NewLeaf) (l at byte made : ℕ) (is : t.verdict ≡ OtherLeaf l at byte) (body : Bor Body) (filled : IsFilled t.stamp.cell (node_of desk) body.now) where
+module _ (z : Sizes) (t : Position) (read_set : ReadSet) (new : NewLeaf) (l at byte made : ℕ) (is : t.verdict ≡ LeafMismatch l at byte) (body : Bor Body) (filled : IsFilled t.stamp.cell (node_of read_set) body.now) where
   abbrev k : List ℕ
   k = new.key.items
 
   abbrev x : Stamp
   x = t.stamp
 
-  pub leaf_knows : (u : View) → IsSeen z k t desk → IsStanding z k t desk u → IsInHand z u new → HasNeeded z u t.verdict made
+  pub leaf_knows : (u : View) → IsSeen z k t read_set → IsStanding z k t read_set u → IsInHand z u new → HasNeeded z u t.verdict made
       → IsForkLeaf z u (site_in x body (get_or k (t.depth - 1) 0)) new (record { depth = t.depth; common = at - t.depth }) l byte made
   leaf_knows u seen standing hand needed = record {
-    place = site_fits z u x (node_of desk) (node_whole z k t desk u standing seen.whole) (leaf l) k t.depth standing.deep (child z k t desk l at byte is u standing) body filled
+    place = site_fits z u x (node_of read_set) (node_whole z k t read_set u standing seen.whole) (leaf l) k t.depth standing.deep (child z k t read_set l at byte is u standing) body filled
         (key_small z u new.number k new.value (t.depth - 1) hand);
     there = says_now.0;
     begins = subst (λ (y : Stamp). Shows z u y (λ s. Begins (take (t.depth + (at - t.depth)) k ++ byte ∷ []) ((heap_of s).key l))) (sym (stamp_in x body (get_or k (t.depth - 1) 0)))
@@ -90,8 +90,8 @@ module _ (z : Sizes) (t : Stand) (desk : Desk) (new : NewLeaf) (l at byte made :
     new_leaf = hand;
   }
     where
-      says_now : Says z k t.depth x (OtherLeaf l at byte) u
-      says_now = says z k t desk l at byte is u standing
+      says_now : Says z k t.depth x (LeafMismatch l at byte) u
+      says_now = says z k t read_set l at byte is u standing
 
       all : t.depth + (at - t.depth) ≡ at
-      all = let low = leaf_behind z k t desk l at byte is seen in omega (arith, low)
+      all = let low = leaf_behind z k t read_set l at byte is seen in omega (arith, low)

@@ -17,11 +17,11 @@ use Rattle.art_plan.specs.ChooseRemove.Seen.{AreSeen, IsSeen}
 use Rattle.art_plan.specs.declared.choose_remove.losses.Loss.TheVariants.{Shrinks}
 use Rattle.art_plan.specs.ArtCommit.CommitLaws.{HasNode}
 use Rattle.art_plan.specs.ChooseInsert.Bodies.{IsFilled, site_in}
-use Rattle.art_plan.specs.ArtFind.Desks.{above_of, node_of}
+use Rattle.art_plan.specs.ArtFind.ReadSets.{above_of, node_of}
 use Rattle.art_plan.specs.ArtFind.Findings.{IsStanding}
-use Rattle.art_plan.specs.ArtFind.declared.desks.Desk.{Desk}
+use Rattle.art_plan.specs.ArtFind.declared.read_sets.ReadSet.{ReadSet}
 use Rattle.art_plan.specs.ArtFind.declared.findings.Above.{Above}
-use Rattle.art_plan.specs.ArtFind.declared.findings.Stand.{Stand}
+use Rattle.art_plan.specs.ArtFind.declared.findings.Position.{Position}
 use Rattle.art_plan.specs.declared.sites.Site.{Site}
 use Rattle.art_plan.specs.Remove.Cases.{IsShrink}
 use Rattle.art_plan.specs.Remove.Removals.{IsSparse, smaller_node}
@@ -29,24 +29,24 @@ use Rattle.art_plan.specs.declared.remove.leaves.OldLeaf.{OldLeaf}
 use Rattle.art_step.specs.declared.views.Sizes.{Sizes}
 use Rattle.art_step.specs.declared.views.View.{View}
 
-module _ (z : Sizes) (t : Stand) (desk : Desk) (old : OldLeaf) (is : HasFound t old) (m : Layout) (goes : loss_at t desk ≡ Shrinks m) (n : Node) (on : t.stamp.cell ≡ cell.Node n) where
+module _ (z : Sizes) (t : Position) (read_set : ReadSet) (old : OldLeaf) (is : HasFound t old) (m : Layout) (goes : loss_at t read_set ≡ Shrinks m) (n : Node) (on : t.stamp.cell ≡ cell.Node n) where
   abbrev last : ℕ
   last = get_or old.key.items (t.depth - 1) 0
 
-  pub node_sparse : IsSeen z old.key.items t desk → (body : Body) → IsFilled t.stamp.cell (node_of desk) body → IsSparse body last
-  node_sparse seen body filled = gives_sparse t desk m goes n on body filled last (record {
-    meaning = found_meaning z t desk old is seen n on body filled;
+  pub node_sparse : IsSeen z old.key.items t read_set → (body : Body) → IsFilled t.stamp.cell (node_of read_set) body → IsSparse body last
+  node_sparse seen body filled = gives_sparse t read_set m goes n on body filled last (record {
+    meaning = found_meaning z t read_set old is seen n on body filled;
     child = child_word (leaf old.number);
-    there = found_at z t desk old is seen n on body filled;
+    there = found_at z t read_set old is seen n on body filled;
   })
 
-  module _ (a : Above) (at : t.above ≡ Some a) (upper lower : Bor Body) (upper-filled : IsFilled a.stamp.cell (above_of desk) upper.now) (lower-filled : IsFilled t.stamp.cell (node_of desk) lower.now)
+  module _ (a : Above) (at : t.above ≡ Some a) (upper lower : Bor Body) (upper-filled : IsFilled a.stamp.cell (above_of read_set) upper.now) (lower-filled : IsFilled t.stamp.cell (node_of read_set) lower.now)
       (made : ℕ) (site : Site) (named : site ≡ site_in a.stamp upper (get_or old.key.items (a.depth - 1) 0)) where
-    pub shrink_knows : (u : View) → AreSeen z old.key.items t desk → IsStanding z old.key.items t desk u → HasSmaller z u t desk made → get_or old.key.items (a.depth - 1) 0 < 256
+    pub shrink_knows : (u : View) → AreSeen z old.key.items t read_set → IsStanding z old.key.items t read_set u → HasSmaller z u t read_set made → get_or old.key.items (a.depth - 1) 0 < 256
         → (byte : ℕ) → byte ≡ last → IsShrink z u site old a.depth (record { node = n; stamp = t.stamp; body = lower }) byte (smaller_node lower.now made)
     shrink_knows u seen standing hand low byte byte-is = record {
-      there = found_below z t desk old is seen.node n on a at (seen.above a at) upper lower upper-filled lower-filled u site named standing low;
-      old_leaf = found_leaf z t desk old is seen.node u standing;
-      at = subst (λ (b : ℕ). child_of lower.now.layout (word_of lower.now) b ≡ Some (child_word (leaf old.number))) (sym byte-is) (found_at z t desk old is seen.node n on lower.now lower-filled);
-      made = subst (λ (k : Layout). HasNode z u (record { layout = k; number = made })) (gives_to t desk m goes n on lower.now lower-filled) (hand m goes);
+      there = found_below z t read_set old is seen.node n on a at (seen.above a at) upper lower upper-filled lower-filled u site named standing low;
+      old_leaf = found_leaf z t read_set old is seen.node u standing;
+      at = subst (λ (b : ℕ). child_of lower.now.layout (word_of lower.now) b ≡ Some (child_word (leaf old.number))) (sym byte-is) (found_at z t read_set old is seen.node n on lower.now lower-filled);
+      made = subst (λ (k : Layout). HasNode z u (record { layout = k; number = made })) (gives_to t read_set m goes n on lower.now lower-filled) (hand m goes);
     }

@@ -10,13 +10,13 @@ use Rattle.art_cell.specs.declared.cells.Cell.{Cell}
 use Rattle.art_cell.specs.declared.cells.Cell.TheVariants as cell
 use Rattle.art_cell.specs.declared.cells.Node.{Node}
 use Rattle.art_plan.specs.ChooseInsert.Bodies.{AreWithin, HasWords, IsFilled}
-use Rattle.art_find.specs.Desks.{above_of, node_of}
+use Rattle.art_find.specs.ReadSets.{above_of, node_of}
 use Rattle.art_find.specs.Findings.{IsAboveOf, IsStanding, IsUnder}
 use Rattle.art_find.specs.Kept.{HasPath, IsKept, WasReadAt}
 use Rattle.art_find.specs.Rereadings.{AreKnown}
-use Rattle.art_find.specs.declared.desks.Desk.{Desk}
+use Rattle.art_find.specs.declared.read_sets.ReadSet.{ReadSet}
 use Rattle.art_find.specs.declared.findings.Above.{Above}
-use Rattle.art_find.specs.declared.findings.Stand.{Stand}
+use Rattle.art_find.specs.declared.findings.Position.{Position}
 use Rattle.art_plan.specs.Changes.{MayTarget}
 use Rattle.art_plan.specs.Seen.{IsReadRoot, IsReadWhole, kept}
 use Rattle.art_step.proofs.WordForms.{no_word}
@@ -33,17 +33,17 @@ pub record IsWhole (z : Sizes) (u : View) (x : Stamp) (reads : List (Option ℕ)
   pub words : IsKept z u x reads
   pub known : AreKnown reads 1 (size_of x.cell)
 
--- ---- of the cells that a desk is of
+-- ---- of the cells that a read set is of
 
-module _ (z : Sizes) (k : List ℕ) (t : Stand) (desk : Desk) (u : View) (at : IsStanding z k t desk u) where
+module _ (z : Sizes) (k : List ℕ) (t : Position) (read_set : ReadSet) (u : View) (at : IsStanding z k t read_set u) where
   -- the cell where the key stands
-  pub node_whole : AreKnown (node_of desk) 1 (size_of t.stamp.cell) → IsWhole z u t.stamp (node_of desk)
+  pub node_whole : AreKnown (node_of read_set) 1 (size_of t.stamp.cell) → IsWhole z u t.stamp (node_of read_set)
   node_whole known = record { stamp = at.stamp; path = at.place.path; words = at.place.kept; known = known }
 
   -- the cell above it
   module _ (n : Node) (on : t.stamp.cell ≡ cell.Node n) where
-    under : IsUnder z k t.above (above_of desk) u (cell.Node n)
-    under = subst (IsUnder z k t.above (above_of desk) u) on at.place.under
+    under : IsUnder z k t.above (above_of read_set) u (cell.Node n)
+    under = subst (IsUnder z k t.above (above_of read_set) u) on at.place.under
 
     pub has_above : (a : Above) × (t.above ≡ Some a)
     has_above = (under.0, under.1)
@@ -55,10 +55,10 @@ module _ (z : Sizes) (k : List ℕ) (t : Stand) (desk : Desk) (u : View) (at : I
       pub above_is : IsAboveOf z k u a n
       above_is = subst (λ (b : Above). IsAboveOf z k u b n) one under.2
 
-      pub above_kept : IsKept z u a.stamp (above_of desk)
-      above_kept = subst (λ (b : Above). IsKept z u b.stamp (above_of desk)) one under.3
+      pub above_kept : IsKept z u a.stamp (above_of read_set)
+      above_kept = subst (λ (b : Above). IsKept z u b.stamp (above_of read_set)) one under.3
 
-      pub above_whole : AreKnown (above_of desk) 1 (size_of a.stamp.cell) → IsWhole z u a.stamp (above_of desk)
+      pub above_whole : AreKnown (above_of read_set) 1 (size_of a.stamp.cell) → IsWhole z u a.stamp (above_of read_set)
       above_whole known = record { stamp = above_is.on; path = above_is.path; words = above_kept; known = known }
 
 -- ---- as what a plan goes by

@@ -7,7 +7,7 @@ use Rattle.art_cell.specs.Reads.{word_of}
 use Rattle.art_cell.specs.Words.{size}
 use Rattle.art_cell.specs.declared.cells.Cell.TheVariants as cell
 use Rattle.art_cell.specs.declared.cells.Link.{Link}
-use Rattle.art_cell.specs.declared.cells.Link.TheVariants.{Leaf as leaf, Node as node}
+use Rattle.art_cell.specs.declared.cells.Link.TheVariants.{Node as node}
 use Rattle.art_cell.specs.declared.cells.Node.{Node}
 use Rattle.art_machine.specs.Acting as effects
 use Rattle.art_plan.specs.declared.changes.Change.{Change}
@@ -17,7 +17,6 @@ use Rattle.art_step.specs.Shows.{rest_of}
 use Rattle.art_step.specs.Steps.Commit as commit
 use Rattle.art_step.specs.Steps.Release.{IsNodeAmong}
 use Rattle.art_step.specs.Steps.Upgrade.{AgreesWithNotes}
-use Rattle.art_step.specs.Tokens.{links_of}
 use Rattle.art_step.specs.Views.{IsWordOf, IsInLimbo, IsNotInHand, Member, cell_named, note_of, size_of, words_in}
 use Rattle.art_step.specs.WordPlaces.{HasVersion, IsInside}
 use Rattle.art_step.specs.declared.views.Fact.TheVariants.{Starts}

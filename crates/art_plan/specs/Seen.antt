@@ -1,5 +1,6 @@
 -- What a pass has read of the cells that a change writes, and where a child word stands in them.
 use Rattle.std.specs.Prelude.{◌≡◌, ◌≢◌, ℕ, ◌<◌, ◌≤◌, List, take, true, false, Option, Some}
+use Rattle.art_cell.specs.Children.{child_word}
 use Rattle.art_cell.specs.Reads.{word_of}
 use Rattle.art_cell.specs.Words.{size}
 use Rattle.art_cell.specs.declared.bodies.Body.{Body}
@@ -32,6 +33,10 @@ kept x = record { stamp = x; obsolete = false }
 -- or as one that goes
 abbrev pub gone : Stamp → Target
 gone x = record { stamp = x; obsolete = true }
+
+-- the child word of the node
+abbrev pub word_below : Below → ℕ
+word_below below = child_word (node below.node)
 
 -- the node may be locked under the stamp, and each of its words was noted: the body has them, and 0 elsewhere. Each has the
 -- form of its place

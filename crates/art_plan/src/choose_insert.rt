@@ -2,21 +2,21 @@
 //!
 //! # The problem
 //!
-//! A pass has gone down an Adaptive Radix Tree (ICDE 2013) by a key that no leaf has, and found where it would stand: a `Stand` of
+//! A pass has gone down an Adaptive Radix Tree (ICDE 2013) by a key that no leaf has, and found where it would stand: a `Position` of
 //! `art_find`, with the cell under whose stamp that was read, the cell above it, and a verdict. The words of both cells stand on
-//! a `Desk`, by their places. Now a change is to be planned that brings a new leaf in, before anything is locked (DaMoN 2016).
+//! a `ReadSet`, by their places. Now a change is to be planned that brings a new leaf in, before anything is locked (DaMoN 2016).
 //! `insert` has the four changes that an insert can make. Each wants to know where the child word stands that is written
-//! (its site), and the words of each node that it writes. Here that is read off the stand and the desk.
+//! (its site), and the words of each node that it writes. Here that is read off the stand and the read set.
 //!
 //! # The cases
 //!
 //! | verdict | change | site | new node |
 //! |---|---|---|---|
 //! | the tree is empty (`Empty`) | `add` | the anchor | none |
-//! | another leaf is on the way (`OtherLeaf`) | `fork_leaf` | that leaf's, in the cell where the key stands | a Node4 |
-//! | the node has no child at the key's byte, and room (`Free`) | `add` | that byte of the node | none |
-//! | the node has none, and is full (`Free`) | `grow` | the node's, in the cell above | the next larger |
-//! | the node's prefix parts from the key (`OtherPrefix`) | `fork_prefix` | the node's, in the cell above | a Node4 |
+//! | another leaf is on the way (`LeafMismatch`) | `fork_leaf` | that leaf's, in the cell where the key stands | a Node4 |
+//! | the node has no child at the key's byte, and room (`NoChild`) | `add` | that byte of the node | none |
+//! | the node has none, and is full (`NoChild`) | `grow` | the node's, in the cell above | the next larger |
+//! | the node's prefix parts from the key (`PrefixMismatch`) | `fork_prefix` | the node's, in the cell above | a Node4 |
 //!
 //! So the cell above is written where the node itself has to give way, or to go further down. A pass asks `needed` first: it says
 //! by the verdict alone whether a node is made, and of which layout, so that its number can be had in hand; and whether the

@@ -2,12 +2,12 @@
 //!
 //! # The problem
 //!
-//! A pass has gone down an Adaptive Radix Tree (ICDE 2013) by a key and found the leaf that has it: a `Stand` of `art_find`, with
-//! the cell under whose stamp that was read, the cell above it, and the verdict `Found`. The words of both cells stand on a `Desk`,
+//! A pass has gone down an Adaptive Radix Tree (ICDE 2013) by a key and found the leaf that has it: a `Position` of `art_find`, with
+//! the cell under whose stamp that was read, the cell above it, and the verdict `Found`. The words of both cells stand on a `ReadSet`,
 //! by their places. Now a change is to be planned that takes the leaf away, before anything is locked (DaMoN 2016). `remove`
 //! has the changes that a removal can make. Which of them it is goes by how many children the node keeps that names the leaf, and
 //! each wants to know where the child word stands that is written (its site), and the words of each node that it writes. Here
-//! that is read off the stand and the desk, as `choose_insert` does for an insert.
+//! that is read off the stand and the read set, as `choose_insert` does for an insert.
 //!
 //! # The cases
 //!

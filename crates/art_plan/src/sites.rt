@@ -14,7 +14,11 @@ pub enum Site<'a> {
     /// In the anchor.
     Root(Stamp),
     /// In a node with these words, at a byte.
-    Slot(Stamp, &'a Body, u8),
+    Slot {
+        stamp: Stamp,
+        body: &'a Body,
+        byte: u8,
+    },
 }
 
 impl Site<'_> {
@@ -23,7 +27,7 @@ impl Site<'_> {
         ensures { result ≡ site_stamp self.now }
     {
         match *self {
-            Site::Root(stamp) | Site::Slot(stamp, _, _) => stamp,
+            Site::Root(stamp) | Site::Slot { stamp, .. } => stamp,
         }
     }
 }
@@ -37,7 +41,7 @@ pub fn added(site: &Site, child: u64, writes: &mut Writes)
 {
     match *site {
         Site::Root(_) => root_word(child, writes),
-        Site::Slot(_, body, byte) => {
+        Site::Slot { body, byte, .. } => {
             plan_add(body, byte, child, writes);
         }
     }
@@ -52,7 +56,7 @@ pub fn replaced(site: &Site, child: u64, writes: &mut Writes)
 {
     match *site {
         Site::Root(_) => root_word(child, writes),
-        Site::Slot(_, body, byte) => plan_set(body, byte, child, writes),
+        Site::Slot { body, byte, .. } => plan_set(body, byte, child, writes),
     }
 }
 
@@ -64,7 +68,7 @@ pub fn dropped(site: &Site, writes: &mut Writes)
 {
     match *site {
         Site::Root(_) => root_word(0, writes),
-        Site::Slot(_, body, byte) => plan_drop(body, byte, writes),
+        Site::Slot { body, byte, .. } => plan_drop(body, byte, writes),
     }
 }
 

@@ -68,11 +68,11 @@ write_fits z turns u c n v (Remove k) goes = (goes.waited, goes.fits)
 write_fits z turns u c n v (Get k) goes = absurd goes
 write_fits z turns u c n v (Look lo hi) goes = absurd goes
 
-pub seek_fits : (z : Sizes) (turns : ℕ) (u : View) (c : Caller) (n : Seek) (v : View) (w : Wish) → GoesOn z w turns u c (call.Seek n) v → seeks.Fits z c.key.items c.hi u n c.trail v
-seek_fits z turns u c n v (Get k) goes = subst (λ (a : ArrayVec ℕ). seeks.Fits z a.items c.hi u n c.trail v) (sym goes.key_is) goes.fits
+pub seek_fits : (z : Sizes) (turns : ℕ) (u : View) (c : Caller) (n : Seek) (v : View) (w : Wish) → GoesOn z w turns u c (call.Seek n) v → seeks.Fits z c.key.items c.hi u n c.path_buffer v
+seek_fits z turns u c n v (Get k) goes = subst (λ (a : ArrayVec ℕ). seeks.Fits z a.items c.hi u n c.path_buffer v) (sym goes.key_is) goes.fits
 seek_fits z turns u c n v (Look lo hi) goes =
     let s = goes.0 in
-    subst (λ (a : ArrayVec ℕ). seeks.Fits z a.items c.hi u n c.trail v) (sym s.key_is) (subst (λ (b : Bound). seeks.Fits z lo.items b u n c.trail v) (sym s.bound_is) s.fits)
+    subst (λ (a : ArrayVec ℕ). seeks.Fits z a.items c.hi u n c.path_buffer v) (sym s.key_is) (subst (λ (b : Bound). seeks.Fits z lo.items b u n c.path_buffer v) (sym s.bound_is) s.fits)
 seek_fits z turns u c n v (Insert k value) goes = absurd goes
 seek_fits z turns u c n v (Remove k) goes = absurd goes
 
@@ -97,7 +97,7 @@ module _ (z : Sizes) (p : ℕ) (m : Memory) (f : Views) (m' : Memory) (f' : View
       let h = waits_on z m u v fits.0 n c.room (places_of c.limbo) fits.1 current made.times made.between made.room made.waiting made.waits in
       write_makes z p m f m' f' u v w solo.found solo.timely solo.failures made.between made.room fits.0 made.waiting a d.room (places_of d.limbo) at h.knows h.same made.makes
   call_on (call.Seek n) (call.Seek a) goes current made =
-      seek_makes z p m f m' f' u v w solo.found at c.key.items c.hi n c.trail a d.trail (seek_fits z turns u c n v wish goes) current made
+      seek_makes z p m f m' f' u v w solo.found at c.key.items c.hi n c.path_buffer a d.path_buffer (seek_fits z turns u c n v wish goes) current made
   call_on (call.Write n) (call.Seek a) goes current made = absurd made
   call_on (call.Seek n) (call.Write a) goes current made = absurd made
 

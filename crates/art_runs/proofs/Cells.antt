@@ -27,17 +27,17 @@ use Rattle.art_key.specs.declared.bounds.Bound.{Bound}
 use Rattle.art_call.specs.ArtLook.Looks as looks
 use Rattle.art_call.specs.ArtLook.declared.looks.LookStage.{LookStage}
 use Rattle.art_call.specs.ArtLook.declared.looks.LookStage.TheVariants as look
-use Rattle.art_call.specs.ArtLook.declared.trails.Trail.{Trail}
+use Rattle.art_call.specs.ArtLook.declared.path_buffers.PathBuffer.{PathBuffer}
 use Rattle.art_call.proofs.ArtGather.LowerNames.{body_read, has_read}
 use Rattle.art_call.specs.ArtGather.Lowering as lowering
 use Rattle.art_call.specs.ArtGather.Lowering.{IsLowering}
 use Rattle.art_call.specs.ArtGather.declared.lowering.Lowering.{Lowering}
 use Rattle.art_call.specs.ArtGather.declared.lowering.Lowering.TheVariants as lowers
-use Rattle.art_call.specs.ArtFind.Desks.{node_of}
+use Rattle.art_call.specs.ArtFind.ReadSets.{node_of}
 use Rattle.art_call.specs.ArtFind.Rereadings.{reads_next}
-use Rattle.art_call.specs.ArtFind.declared.desks.Desk.{Desk}
+use Rattle.art_call.specs.ArtFind.declared.read_sets.ReadSet.{ReadSet}
 use Rattle.art_call.specs.ArtFind.declared.findings.Above.{Above}
-use Rattle.art_call.specs.ArtFind.declared.findings.Stand.{Stand}
+use Rattle.art_call.specs.ArtFind.declared.findings.Position.{Position}
 use Rattle.art_call.specs.ArtFind.declared.rereadings.Rereading.{Rereading}
 use Rattle.art_call.proofs.ArtPlan.ChildPlaces.{IsPlaceOf, place_byte}
 use Rattle.art_runs.proofs.Calm.{IsCellFounded, IsLedTo}
@@ -71,7 +71,7 @@ descent_founded z k what depth (descent.Bytes seen i r) u v free fits = tt
 descent_founded z k what depth (descent.Decided x found) u v free fits = (fits.2.stamp, none_held v x.cell free)
 descent_founded z k what depth (descent.Ended o) u v free fits = tt
 
-pub look_founded : (z : Sizes) (lo : List ℕ) (hi : Bound) (depth : ℕ) (s : LookStage) (t : Trail) (u v : View) → v.held ≡ [] → looks.StageFits z lo hi depth s t u v
+pub look_founded : (z : Sizes) (lo : List ℕ) (hi : Bound) (depth : ℕ) (s : LookStage) (t : PathBuffer) (u v : View) → v.held ≡ [] → looks.StageFits z lo hi depth s t u v
     → IfSome (looks.asks s) (IsCellFounded z v)
 look_founded z lo hi depth look.Start t u v free fits = (free, tt)
 look_founded z lo hi depth (look.Anchor x) t u v free fits = tt
@@ -105,7 +105,7 @@ pub above_checks_only : (o : Option Above) → BeginsNone (option_map above_chec
 above_checks_only (Some a) = λ c is. cc
 above_checks_only None = λ c is. cc
 
-pub vouching_begins_none : (t : Stand) (s : Vouching) → BeginsNone (vouching.asks t s)
+pub vouching_begins_none : (t : Position) (s : Vouching) → BeginsNone (vouching.asks t s)
 vouching_begins_none t (vouches.Above r) = above_reads_only r t.above
 vouching_begins_none t (vouches.Here r) = reads_only t.stamp r
 vouching_begins_none t vouches.CheckAbove = above_checks_only t.above
@@ -114,23 +114,23 @@ vouching_begins_none t (vouches.Ended r) = λ c is. cc
 
 -- ---- the lower node
 
-module _ (z : Sizes) (k : List ℕ) (t : Stand) (n : Node) (desk : Desk) (u v : View) (fits : IsLowering z k t n desk u v) where
+module _ (z : Sizes) (k : List ℕ) (t : Position) (n : Node) (read_set : ReadSet) (u v : View) (fits : IsLowering z k t n read_set u v) where
   abbrev here : Node
   here = fits.here
 
-  whole : IsWhole z v t.stamp (node_of desk)
-  whole = node_whole z k t desk v fits.vouching.standing fits.whole
+  whole : IsWhole z v t.stamp (node_of read_set)
+  whole = node_whole z k t read_set v fits.vouching.standing fits.whole
 
-  filled : IsFilled t.stamp.cell (node_of desk) (body_read here (node_of desk))
+  filled : IsFilled t.stamp.cell (node_of read_set) (body_read here (node_of read_set))
   filled m at =
       let same : cell.Node here ≡ cell.Node m = sym fits.is ∙ at in
       let one : here ≡ m = cc in
-      subst (λ (p : Node). HasWords p (node_of desk) (body_read here (node_of desk))) one (has_read here (node_of desk))
+      subst (λ (p : Node). HasWords p (node_of read_set) (body_read here (node_of read_set))) one (has_read here (node_of read_set))
 
   -- the word that was read of the node is that of a byte's child
   lower_stands : (s : Cells) → IsShape z s → HoldsAll v t.stamp s → (q : List ℕ) × StandsAt (heap_of s) (node n) q
   lower_stands s shape holds =
-      let at : StandsAt (heap_of s) (node here) whole.path.0 = stands z v t.stamp (node_of desk) whole s shape holds here fits.is (body_read here (node_of desk)) filled in
+      let at : StandsAt (heap_of s) (node here) whole.path.0 = stands z v t.stamp (node_of read_set) whole s shape holds here fits.is (body_read here (node_of read_set)) filled in
       let name = fits.named in
       let word : s (cell.Node here) name.place ≡ name.word =
       subst (λ (c : Cell). s c name.place ≡ name.word) fits.is (holds (note_of t.stamp (Word name.place name.word)) (whole.words.each name.place name.word name.read).noted refl) in
@@ -147,16 +147,16 @@ module _ (z : Sizes) (k : List ℕ) (t : Stand) (n : Node) (desk : Desk) (u v : 
   lower_led : IsLedTo z v (cell.Node n)
   lower_led = (t.stamp, fits.vouching.standing.stamp.stamp, λ s shape holds. lower_stands s shape holds)
 
-pub lower_begins : (z : Sizes) (k : List ℕ) (t : Stand) (n : Node) (m : Lowering) (desk : Desk) (reads : List (Option ℕ)) (u v : View) → lowering.StageFits z k t n m desk reads u v
+pub lower_begins : (z : Sizes) (k : List ℕ) (t : Position) (n : Node) (m : Lowering) (read_set : ReadSet) (reads : List (Option ℕ)) (u v : View) → lowering.StageFits z k t n m read_set reads u v
     → (c : Cell) → lowering.asks t m ≡ Some (Begin c) → IsLedTo z v c
-lower_begins z k t n (lowers.Beginning a) desk reads u v fits c is =
+lower_begins z k t n (lowers.Beginning a) read_set reads u v fits c is =
     let same : Begin (cell.Node a) ≡ Begin c = same_Some _ _ is in
     let one : cell.Node a ≡ c = cc in
-    subst (IsLedTo z v) one (subst (λ (b : Node). IsLedTo z v (cell.Node b)) (sym fits.1) (lower_led z k t n desk u v fits.0))
-lower_begins z k t n (lowers.Named x) desk reads u v fits c is = absurd (cc)
-lower_begins z k t n (lowers.Above x r) desk reads u v fits c is = absurd (above_reads_only r t.above c is)
-lower_begins z k t n (lowers.Lower x r) desk reads u v fits c is = absurd (reads_only x r c is)
-lower_begins z k t n (lowers.CheckAbove x) desk reads u v fits c is = absurd (above_checks_only t.above c is)
-lower_begins z k t n (lowers.CheckHere x) desk reads u v fits c is = absurd (cc)
-lower_begins z k t n (lowers.CheckLower x) desk reads u v fits c is = absurd (cc)
-lower_begins z k t n (lowers.Ended r) desk reads u v fits c is = absurd (cc)
+    subst (IsLedTo z v) one (subst (λ (b : Node). IsLedTo z v (cell.Node b)) (sym fits.1) (lower_led z k t n read_set u v fits.0))
+lower_begins z k t n (lowers.Named x) read_set reads u v fits c is = absurd (cc)
+lower_begins z k t n (lowers.Above x r) read_set reads u v fits c is = absurd (above_reads_only r t.above c is)
+lower_begins z k t n (lowers.Lower x r) read_set reads u v fits c is = absurd (reads_only x r c is)
+lower_begins z k t n (lowers.CheckAbove x) read_set reads u v fits c is = absurd (above_checks_only t.above c is)
+lower_begins z k t n (lowers.CheckHere x) read_set reads u v fits c is = absurd (cc)
+lower_begins z k t n (lowers.CheckLower x) read_set reads u v fits c is = absurd (cc)
+lower_begins z k t n (lowers.Ended r) read_set reads u v fits c is = absurd (cc)

@@ -49,7 +49,7 @@ one_history ts k xs l ys run count sound = record {
 
 module _ (A : List ℕ → Type 0) where
   -- what the pass has seen of its own events is admitted
-  abbrev OwnAdmitted : ℕ → List Event → Type 0
+  abbrev pub OwnAdmitted : ℕ → List Event → Type 0
   OwnAdmitted p seen = (e : Event) → Member e seen → e.pass ≡ p → IsAdmitted A e.what
 
   admitted_by : (log : List Event) (f : Views) → IsOneHistory log f → ((p : ℕ) (v : View) → f p ≡ Some v → OwnAdmitted p v.seen) → (e : Event) → Member e log
@@ -59,7 +59,7 @@ module _ (A : List ℕ → Type 0) where
       let s = one.tells e.pass v is in
       all e.pass v is e (of_beginning e.pass log v.seen s.starts.0 e s.starts.1 (s.own ∙ sym s.all) here refl) refl
 
-  all_admitted : (log : List Event) (f : Views) → IsOneHistory log f → ((p : ℕ) (v : View) → f p ≡ Some v → OwnAdmitted p v.seen) → AreAdmitted A log
+  pub all_admitted : (log : List Event) (f : Views) → IsOneHistory log f → ((p : ℕ) (v : View) → f p ≡ Some v → OwnAdmitted p v.seen) → AreAdmitted A log
   all_admitted log f one all e here = admitted_by log f one all e here (f e.pass) refl
 
   -- ---- what was wished
@@ -122,7 +122,7 @@ module _ (A : List ℕ → Type 0) (p : ℕ) where
 -- ---- typed rows
 
 module _ (schema : List Column) (ts : List ℕ) (k : Contents) (xs : List Op) (l : Contents) (ys : List Op) (run : IsRunOfOps ts k xs l ys) (typed : AreTyped schema k xs) where
-  own_typed : (p : ℕ) → p < length k.views → (o : Option Op) → slice_get xs p ≡ o → OwnAdmitted (IsKeyOf schema) p (view_at l.views p).seen
+  pub own_typed : (p : ℕ) → p < length k.views → (o : Option Op) → slice_get xs p ≡ o → OwnAdmitted (IsKeyOf schema) p (view_at l.views p).seen
   own_typed p low None is =
       none_admitted (IsKeyOf schema) p ts k xs l ys low (λ e here own. typed.seen p low e here) (nobody_makes p ts k xs l ys run is)
   own_typed p low (Some a) is =

@@ -1,12 +1,15 @@
 mod Alone
+mod Apart
 mod Calls
 mod Calm
+mod CarriedOn
 mod Cells
+mod Endings
 mod Finding
 mod Found
 mod Growing
 mod Histories
-mod Making
+mod Apply
 mod Numbers
 mod OthersIdle
 mod Phases

@@ -16,15 +16,15 @@ use Rattle.art_epoch.specs.declared.taking.Search.TheVariants.{Looking, Clearing
 use Rattle.art_epoch.specs.declared.taking.Taking.{Taking}
 use Rattle.art_call.specs.ArtFrame.Stocks.{IsIn, node_in}
 use Rattle.art_call.specs.ArtFrame.declared.stocks.Stock.{Stock}
-use Rattle.art_call.specs.ArtGather.Supplying as supplying
-use Rattle.art_call.specs.ArtGather.Supplying.{leaf_asked}
-use Rattle.art_call.specs.ArtGather.declared.supplying.Supplying.{Supplying}
-use Rattle.art_call.specs.ArtGather.declared.supplying.Supplying.TheVariants as supplies
-use Rattle.art_call.specs.ArtGather.declared.supplying.Wants.{Wants}
+use Rattle.art_call.specs.ArtGather.Reserve as reserve
+use Rattle.art_call.specs.ArtGather.Reserve.{leaf_asked}
+use Rattle.art_call.specs.ArtGather.declared.reserve.Reserve.{Reserve}
+use Rattle.art_call.specs.ArtGather.declared.reserve.Reserve.TheVariants as supplies
+use Rattle.art_call.specs.ArtGather.declared.reserve.Demand.{Demand}
 use Rattle.art_call.proofs.ArtAttempt.Given.{if_some}
 use Rattle.art_machine.specs.declared.actions.Action.{Action}
 use Rattle.art_machine.specs.declared.actions.Action.TheVariants.{ClearBit, WriteLeaf}
-use Rattle.art_call.specs.ArtMake.declared.packing.Packing.{Packing}
+use Rattle.art_call.specs.ArtMake.declared.leaf_writer.LeafWriter.{LeafWriter}
 use Rattle.art_runs.proofs.Calm.{IsFounded}
 use Rattle.art_runs.proofs.Finding.{found_since}
 use Rattle.art_runs.specs.OthersIdle.{HasFound}
@@ -85,20 +85,20 @@ module _ (m : Memory) (u v : View) (had : HasFound m u v) (timely : IsTimely u) 
 
   -- ---- a supply
 
-  packing_founded : (z : Sizes) (k : List ℕ) (value : ℕ) (p : Packing) (a : Action) (o : Option ℕ) → option_and_then (leaf_asked k value p) o ≡ Some a → IsFounded z m v a
-  packing_founded z k value p a (Some l) is = subst (IsFounded z m v) (if_some (nat_lt p.place 10) (WriteLeaf l p.place (leaf_word k value p.place)) a is) tt
-  packing_founded z k value p a None is = absurd (cc)
+  leaf_writer_founded : (z : Sizes) (k : List ℕ) (value : ℕ) (p : LeafWriter) (a : Action) (o : Option ℕ) → option_and_then (leaf_asked k value p) o ≡ Some a → IsFounded z m v a
+  leaf_writer_founded z k value p a (Some l) is = subst (IsFounded z m v) (if_some (nat_lt p.place 10) (WriteLeaf l p.place (leaf_word k value p.place)) a is) tt
+  leaf_writer_founded z k value p a None is = absurd (cc)
 
-  pub supply_founded : (z : Sizes) (wants : Wants) (k : List ℕ) (value : ℕ) (stock : Stock) (b : View) (a : Action) → u.steps ≤ b.steps → (s : Supplying) → supplying.StageFits z wants k value s stock b v
-      → supplying.asks k value stock s ≡ Some a → IsFounded z m v a
-  supply_founded z wants k value stock b a late (supplies.Leaf t) fits is =
+  pub supply_founded : (z : Sizes) (demand : Demand) (k : List ℕ) (value : ℕ) (stock : Stock) (b : View) (a : Action) → u.steps ≤ b.steps → (s : Reserve) → reserve.StageFits z demand k value s stock b v
+      → reserve.asks k value stock s ≡ Some a → IsFounded z m v a
+  supply_founded z demand k value stock b a late (supplies.Leaf t) fits is =
       let q = fits.2.sought in
       let later = q.base.later in
       taking_founded z q.early t Leaves a q.pool_is (omega (arith, late, later)) (no_leaf stock q.early.hand q.base.has.only fits.1) q.seeks is
-  supply_founded z wants k value stock b a late (supplies.Packing p) fits is = packing_founded z k value p a stock.leaf is
-  supply_founded z wants k value stock b a late (supplies.Node t) fits is =
+  supply_founded z demand k value stock b a late (supplies.LeafWriter p) fits is = leaf_writer_founded z k value p a stock.leaf is
+  supply_founded z demand k value stock b a late (supplies.Node t) fits is =
       let s = fits.1 in
       let q = s.seeking.sought in
       let later = q.base.later in
       taking_founded z q.early t (pool_of_layout s.layout) a q.pool_is (omega (arith, late, later)) (no_node stock q.early.hand s.layout q.base.has.only s.none) q.seeks is
-  supply_founded z wants k value stock b a late (supplies.Ended r) fits is = absurd (cc)
+  supply_founded z demand k value stock b a late (supplies.Ended r) fits is = absurd (cc)

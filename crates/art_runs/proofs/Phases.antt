@@ -7,11 +7,11 @@ use Rattle.std.specs.Option.{option_and_then, option_map}
 use Rattle.std.specs.Prelude.{◌==◌, ◌++◌}
 use Rattle.art_call.proofs.ArtAttempt.Free.{free_so}
 use Rattle.art_call.proofs.ArtAttempt.Finds as insert_finds
-use Rattle.art_call.proofs.ArtAttempt.Given.{IsMade, IsSupply, ask_looks, lower_asks_look, making_asks_made, reads_look, supply_asks_supply, vouch_asks_look}
+use Rattle.art_call.proofs.ArtAttempt.Given.{IsMade, IsSupply, ask_looks, lower_asks_look, apply_asks_made, reads_look, supply_asks_supply, vouch_asks_look}
 use Rattle.art_call.proofs.ArtAttempt.Left.{tries_some}
 use Rattle.art_call.proofs.ArtErase.Finds as erase_finds
 use Rattle.art_call.specs.ArtAttempt.Inserting as inserts
-use Rattle.art_call.specs.ArtAttempt.Inserting.{free_at, held_left, is_begun, last_left, making_left, tries_left}
+use Rattle.art_call.specs.ArtAttempt.Inserting.{free_at, held_left, is_begun, last_left, apply_left, tries_left}
 use Rattle.art_call.specs.ArtAttempt.Trying.{StillTries}
 use Rattle.art_call.specs.ArtAttempt.declared.inserting.Inserting.{Inserting as Insertion}
 use Rattle.art_call.specs.ArtAttempt.declared.inserting.Stage.{Stage as InsertStage}
@@ -26,10 +26,10 @@ use Rattle.art_call.specs.ArtErase.declared.erasing.Erasing.{Erasing as Erasure}
 use Rattle.art_call.specs.ArtErase.declared.erasing.Stage.{Stage as EraseStage}
 use Rattle.art_call.specs.ArtErase.declared.erasing.Stage.TheVariants as erase
 use Rattle.art_call.proofs.ArtMake.Told.{map_some}
-use Rattle.art_call.specs.ArtMake.Making as making
-use Rattle.art_call.specs.ArtMake.Making.{Fails, IsCommitted, put_into, releases}
-use Rattle.art_call.specs.ArtMake.declared.making.Making.{Making}
-use Rattle.art_call.specs.ArtMake.declared.making.Making.TheVariants.{Upgrading, Claiming, Filling, Writing, Committing, Releasing, ReleasingNode, GivingUp, Ended}
+use Rattle.art_call.specs.ArtMake.Apply as apply
+use Rattle.art_call.specs.ArtMake.Apply.{Fails, IsCommitted, put_into, releases}
+use Rattle.art_call.specs.ArtMake.declared.apply.Apply.{Apply}
+use Rattle.art_call.specs.ArtMake.declared.apply.Apply.TheVariants.{Upgrading, Claiming, Filling, Writing, Committing, Releasing, ReleasingNode, GivingUp, Ended}
 use Rattle.art_call.specs.ArtPlan.Changes.{put_at, target_at}
 use Rattle.art_call.specs.ArtPlan.Whole.{made_at, made_word}
 use Rattle.art_call.specs.ArtPlan.declared.changes.Change.{Change as ChangeOf}
@@ -39,7 +39,7 @@ use Rattle.art_machine.specs.Acting.{IsLook}
 use Rattle.art_machine.specs.declared.actions.Action.{Action}
 use Rattle.art_machine.specs.declared.actions.Action.TheVariants.{Begin, Read, ReadLeaf, Check, Settle, Upgrade, Claim, Write, WriteLeaf, Commit, Release}
 use Rattle.art_machine.specs.declared.actions.Action.TheVariants.{ClearBit, GiveBack, Free, ReadEpoch, StorePin, RaiseEpoch, ReadPin}
-use Rattle.art_runs.proofs.Making.{IsRelease, IsUpgrade, NeedsCurrent}
+use Rattle.art_runs.proofs.Apply.{IsRelease, IsUpgrade, NeedsCurrent}
 use Rattle.art_step.specs.Events.{MakesEvent}
 use Rattle.art_step.specs.Shows.{Rest}
 use Rattle.art_step.specs.declared.deeds.Deed.{Deed}
@@ -60,7 +60,7 @@ many_held left i few = ⊎_elim
     (λ (e : (left == 0) ≡ false). rw e (omega arith))
     (cases_Bool (left == 0))
 
-many_upgrades : (left i : ℕ) → i ≤ 4 → (is_begun (Upgrading i) ≡ true → 0 < left) → 575 < making_left left (Upgrading i)
+many_upgrades : (left i : ℕ) → i ≤ 4 → (is_begun (Upgrading i) ≡ true → 0 < left) → 575 < apply_left left (Upgrading i)
 many_upgrades left i few some = ⊎_elim
     (λ (e : (i == 0) ≡ true). rw e (many_tries left (some e)))
     (λ (e : (i == 0) ≡ false). rw e (many_held left i few))
@@ -90,10 +90,10 @@ module _ (z : Sizes) (c : ChangeOf) (u v : View) (a : Action) where
   by_put P None is each = absurd (cc)
 
   -- an upgrade comes while nothing is told
-  abbrev IsEarly : ℕ → Making → Type 0
-  IsEarly left m = (v.own ≡ u.own) × (575 < making_left left m)
+  abbrev IsEarly : ℕ → Apply → Type 0
+  IsEarly left m = (v.own ≡ u.own) × (575 < apply_left left m)
 
-  upgrade_early : (left : ℕ) (m : Making) → making.Fits z c m u v → (is_begun m ≡ true → 0 < left) → making.asks c m ≡ Some a → IsUpgrade a → IsEarly left m
+  upgrade_early : (left : ℕ) (m : Apply) → apply.Fits z c m u v → (is_begun m ≡ true → 0 < left) → apply.asks c m ≡ Some a → IsUpgrade a → IsEarly left m
   upgrade_early left (Upgrading i) fits some is up =
       let few = fits.small.targets in
       let low = fits.stage.0 in
@@ -112,7 +112,7 @@ module _ (z : Sizes) (c : ChangeOf) (u v : View) (a : Action) where
   given_up_few left locked released (fault.Exhausted d) x fails few = few_given_up left locked released d
 
   -- a release comes after an event, after a failure, or where few steps are left
-  release_late : (left : ℕ) (m : Making) → making.Fits z c m u v → making.asks c m ≡ Some a → IsRelease a → v.own ≡ u.own → v.failures ≤ u.failures → 575 < making_left left m → ⊥
+  release_late : (left : ℕ) (m : Apply) → apply.Fits z c m u v → apply.asks c m ≡ Some a → IsRelease a → v.own ≡ u.own → v.failures ≤ u.failures → 575 < apply_left left m → ⊥
   release_late left (Releasing i) fits is up own few many = no_event u v c.effects.deed fits.stage.1.done.event own
   release_late left (ReleasingNode b) fits is up own few many = no_event u v c.effects.deed fits.stage.1.done.event own
   release_late left (GivingUp locked released e) fits is up own few many =
@@ -213,52 +213,52 @@ module _ (z : Sizes) (b v : View) (r : Room) (a : Action) (left : ℕ) where
   abbrev IsEarlyBy : ℕ → Type 0
   IsEarlyBy n = (v.own ≡ b.own) × (575 < n)
 
-  look_change : (early : View) (n : Making) → StillTries b early → making.Fits z r.change n early v → (is_begun n ≡ true → 0 < left) → making.asks r.change n ≡ Some a → NeedsCurrent a → IsEarlyBy (making_left left n)
+  look_change : (early : View) (n : Apply) → StillTries b early → apply.Fits z r.change n early v → (is_begun n ≡ true → 0 < left) → apply.asks r.change n ≡ Some a → NeedsCurrent a → IsEarlyBy (apply_left left n)
   look_change early n base fits some is look =
-      let e = upgrade_early z r.change early v a left n fits some is (look_upgrade a (making_asks_made r.change n a is) look) in
+      let e = upgrade_early z r.change early v a left n fits some is (look_upgrade a (apply_asks_made r.change n a is) look) in
       (e.0 ∙ ap (λ (o : Rest). o.own) base.rest, e.1)
 
-  release_change : (early : View) (n : Making) → StillTries b early → making.Fits z r.change n early v → making.asks r.change n ≡ Some a → IsRelease a → v.own ≡ b.own → v.failures ≤ b.failures → 575 < making_left left n → ⊥
+  release_change : (early : View) (n : Apply) → StillTries b early → apply.Fits z r.change n early v → apply.asks r.change n ≡ Some a → IsRelease a → v.own ≡ b.own → v.failures ≤ b.failures → 575 < apply_left left n → ⊥
   release_change early n base fits is up own few many =
       let later = base.later.failures in
       release_late z r.change early v a left n fits is up (own ∙ sym (ap (λ (o : Rest). o.own) base.rest)) (omega (arith, few, later)) many
 
   -- ---- of an insert
 
-  pub insert_look : (i : Insertion) → length r.row.key.items ≤ 64 → (s : InsertStage) → inserts.StageFits z b s i r v → (free_at s i.making ≡ true → 0 < left) → inserts.asks_at s i r ≡ Some a → NeedsCurrent a
-      → IsEarlyBy (inserts.left_at left s i.making)
+  pub insert_look : (i : Insertion) → length r.row.key.items ≤ 64 → (s : InsertStage) → inserts.StageFits z b s i r v → (free_at s i.apply ≡ true → 0 < left) → inserts.asks_at s i r ≡ Some a → NeedsCurrent a
+      → IsEarlyBy (inserts.left_at left s i.apply)
   insert_look i short insert.Finding fits some is look = (ap (λ (o : Rest). o.own) (free_so z b i r v short insert.Finding refl refl fits).still.rest, many_tries left (some refl))
-  insert_look i short insert.Supplying fits some is look = absurd (no_look_supply a (supply_asks_supply r.row.key.items r.row.value r.stock i.supplying a is) look)
+  insert_look i short insert.Reserve fits some is look = absurd (no_look_supply a (supply_asks_supply r.row.key.items r.row.value r.stock i.reserve a is) look)
   insert_look i short insert.Vouching fits some is look = (ap (λ (o : Rest). o.own) (free_so z b i r v short insert.Vouching refl refl fits).still.rest, many_tries left (some refl))
-  insert_look i short insert.Making fits some is look = look_change fits.0.early i.making fits.0.base fits.0.fits some is look
+  insert_look i short insert.Apply fits some is look = look_change fits.0.early i.apply fits.0.base fits.0.fits some is look
   insert_look i short (insert.Ended e) fits some is look = absurd (cc)
 
   pub insert_release : (i : Insertion) (s : InsertStage) → inserts.StageFits z b s i r v → inserts.asks_at s i r ≡ Some a → IsRelease a → v.own ≡ b.own → v.failures ≤ b.failures
-      → 575 < inserts.left_at left s i.making → ⊥
+      → 575 < inserts.left_at left s i.apply → ⊥
   insert_release i insert.Finding fits is up own few many = no_release_look a (ask_looks z (inserts.deed_at i r) v a (insert_finds.finding_allowed z b i r v fits a is)) up
-  insert_release i insert.Supplying fits is up own few many = no_release_supply a (supply_asks_supply r.row.key.items r.row.value r.stock i.supplying a is) up
-  insert_release i insert.Vouching fits is up own few many = no_release_look a (vouch_asks_look i.stand i.vouching a is) up
-  insert_release i insert.Making fits is up own few many = release_change fits.0.early i.making fits.0.base fits.0.fits is up own few many
+  insert_release i insert.Reserve fits is up own few many = no_release_supply a (supply_asks_supply r.row.key.items r.row.value r.stock i.reserve a is) up
+  insert_release i insert.Vouching fits is up own few many = no_release_look a (vouch_asks_look i.position i.vouching a is) up
+  insert_release i insert.Apply fits is up own few many = release_change fits.0.early i.apply fits.0.base fits.0.fits is up own few many
   insert_release i (insert.Ended e) fits is up own few many = absurd (cc)
 
   -- ---- of a removal
 
-  pub erase_look : (i : Erasure) → length r.gone.key.items ≤ 64 → (s : EraseStage) → erases.StageFits z b s i r v → (erases.free_at s i.making ≡ true → 0 < left) → erases.asks_at s i r ≡ Some a → NeedsCurrent a
-      → IsEarlyBy (erases.left_at left s i.making)
+  pub erase_look : (i : Erasure) → length r.gone.key.items ≤ 64 → (s : EraseStage) → erases.StageFits z b s i r v → (erases.free_at s i.apply ≡ true → 0 < left) → erases.asks_at s i r ≡ Some a → NeedsCurrent a
+      → IsEarlyBy (erases.left_at left s i.apply)
   erase_look i short erase.Finding fits some is look = (ap (λ (o : Rest). o.own) (erase_free.free_so z b i r v short erase.Finding refl refl fits).still.rest, many_tries left (some refl))
-  erase_look i short (erase.Supplying layout) fits some is look = absurd (no_look_supply a (supply_asks_supply r.gone.key.items 0 r.stock i.supplying a is) look)
+  erase_look i short (erase.Reserve layout) fits some is look = absurd (no_look_supply a (supply_asks_supply r.gone.key.items 0 r.stock i.reserve a is) look)
   erase_look i short (erase.Reading q) fits some is look = (ap (λ (o : Rest). o.own) (erase_free.free_so z b i r v short (erase.Reading q) refl refl fits).still.rest, many_tries left (some refl))
   erase_look i short erase.Vouching fits some is look = (ap (λ (o : Rest). o.own) (erase_free.free_so z b i r v short erase.Vouching refl refl fits).still.rest, many_tries left (some refl))
   erase_look i short erase.Lowering fits some is look = (ap (λ (o : Rest). o.own) (erase_free.free_so z b i r v short erase.Lowering refl refl fits).still.rest, many_tries left (some refl))
-  erase_look i short erase.Making fits some is look = look_change fits.0.early i.making fits.0.base fits.0.fits some is look
+  erase_look i short erase.Apply fits some is look = look_change fits.0.early i.apply fits.0.base fits.0.fits some is look
   erase_look i short (erase.Ended e) fits some is look = absurd (cc)
 
   pub erase_release : (i : Erasure) (s : EraseStage) → erases.StageFits z b s i r v → erases.asks_at s i r ≡ Some a → IsRelease a → v.own ≡ b.own → v.failures ≤ b.failures
-      → 575 < erases.left_at left s i.making → ⊥
+      → 575 < erases.left_at left s i.apply → ⊥
   erase_release i erase.Finding fits is up own few many = no_release_look a (ask_looks z (erases.absent r.gone) v a (erase_finds.finding_allowed z b i r v fits a is)) up
-  erase_release i (erase.Supplying layout) fits is up own few many = no_release_supply a (supply_asks_supply r.gone.key.items 0 r.stock i.supplying a is) up
-  erase_release i (erase.Reading q) fits is up own few many = no_release_look a (reads_look i.stand.stamp q a is) up
-  erase_release i erase.Vouching fits is up own few many = no_release_look a (vouch_asks_look i.stand i.vouching a is) up
-  erase_release i erase.Lowering fits is up own few many = no_release_look a (lower_asks_look i.stand i.lowering a is) up
-  erase_release i erase.Making fits is up own few many = release_change fits.0.early i.making fits.0.base fits.0.fits is up own few many
+  erase_release i (erase.Reserve layout) fits is up own few many = no_release_supply a (supply_asks_supply r.gone.key.items 0 r.stock i.reserve a is) up
+  erase_release i (erase.Reading q) fits is up own few many = no_release_look a (reads_look i.position.stamp q a is) up
+  erase_release i erase.Vouching fits is up own few many = no_release_look a (vouch_asks_look i.position i.vouching a is) up
+  erase_release i erase.Lowering fits is up own few many = no_release_look a (lower_asks_look i.position i.lowering a is) up
+  erase_release i erase.Apply fits is up own few many = release_change fits.0.early i.apply fits.0.base fits.0.fits is up own few many
   erase_release i (erase.Ended e) fits is up own few many = absurd (cc)

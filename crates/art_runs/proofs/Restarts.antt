@@ -37,7 +37,7 @@ use Rattle.art_call.specs.ArtFrame.declared.closings.Closing.{Closing}
 use Rattle.art_call.specs.ArtFrame.declared.closings.Closing.TheVariants.{Labelling, Giving, Ended}
 use Rattle.art_call.specs.ArtFrame.declared.stocks.Stock.{Stock}
 use Rattle.art_key.specs.declared.bounds.Bound.{Bound}
-use Rattle.art_call.specs.ArtLook.declared.trails.Trail.{Trail}
+use Rattle.art_call.specs.ArtLook.declared.path_buffers.PathBuffer.{PathBuffer}
 use Rattle.art_call.specs.ArtSeek.Seeks as seeks
 use Rattle.art_call.specs.ArtSeek.Walks as walks
 use Rattle.art_call.specs.ArtSeek.declared.seeks.Seek.{Seek}
@@ -57,18 +57,18 @@ use Rattle.art_step.specs.declared.views.View.{View}
 module _ (z : Sizes) (b : View) (r : Room) (v : View) where
   insert_later : (i : Insertion) (s : InsertStage) → inserts.StageFits z b s i r v → inserts.entered_at s ≡ None → b.failures ≤ v.failures
   insert_later i insert.Finding fits going = let first = fits.base.later.failures in let more = fits.later.failures in omega (arith, first, more)
-  insert_later i insert.Supplying fits going = let first = fits.0.base.later.failures in let more = fits.0.fits.only.failures in omega (arith, first, more)
+  insert_later i insert.Reserve fits going = let first = fits.0.base.later.failures in let more = fits.0.fits.only.failures in omega (arith, first, more)
   insert_later i insert.Vouching fits going = let first = fits.0.base.later.failures in let more = fits.0.later.failures in omega (arith, first, more)
-  insert_later i insert.Making fits going = let first = fits.0.base.later.failures in let more = fits.0.later.failures in omega (arith, first, more)
+  insert_later i insert.Apply fits going = let first = fits.0.base.later.failures in let more = fits.0.later.failures in omega (arith, first, more)
   insert_later i (insert.Ended e) fits going = absurd (cc)
 
   erase_later : (i : Erasure) (s : EraseStage) → erases.StageFits z b s i r v → erases.erased_at s ≡ None → b.failures ≤ v.failures
   erase_later i erase.Finding fits going = let first = fits.base.later.failures in let more = fits.later.failures in omega (arith, first, more)
-  erase_later i (erase.Supplying layout) fits going = let first = fits.0.base.later.failures in let more = fits.0.fits.only.failures in omega (arith, first, more)
+  erase_later i (erase.Reserve layout) fits going = let first = fits.0.base.later.failures in let more = fits.0.fits.only.failures in omega (arith, first, more)
   erase_later i (erase.Reading q) fits going = let first = fits.0.base.later.failures in let more = fits.0.later.failures in omega (arith, first, more)
   erase_later i erase.Vouching fits going = let first = fits.0.base.later.failures in let more = fits.0.later.failures in omega (arith, first, more)
   erase_later i erase.Lowering fits going = let first = fits.0.base.later.failures in let more = fits.0.later.failures in omega (arith, first, more)
-  erase_later i erase.Making fits going = let first = fits.0.base.later.failures in let more = fits.0.later.failures in omega (arith, first, more)
+  erase_later i erase.Apply fits going = let first = fits.0.base.later.failures in let more = fits.0.later.failures in omega (arith, first, more)
   erase_later i (erase.Ended e) fits going = absurd (cc)
 
   try_later : (j : Job) (t : Trying) → tries.Fits z b j t r v → tries.ended_at t ≡ None → b.failures ≤ v.failures
@@ -110,11 +110,11 @@ module _ (z : Sizes) (u : View) (ps : List Place) (n : Write) (r : Room) (qs : L
 pinned_same : (v : View) (x : ℕ) → (pin.view_after v x).failures ≡ v.failures
 pinned_same v x = cond_both (x == 0) _ _ (λ (u : View). u.failures ≡ v.failures) (λ e. refl) (λ e. refl)
 
-walk_failed : (z : Sizes) (k : List ℕ) (hi : Bound) (u : View) (t : Trail) (restarts : ℕ) (v : View) (n : Walk) → walks.Fits z k hi u n t restarts v → v.failures ≡ u.failures + restarts
+walk_failed : (z : Sizes) (k : List ℕ) (hi : Bound) (u : View) (t : PathBuffer) (restarts : ℕ) (v : View) (n : Walk) → walks.Fits z k hi u n t restarts v → v.failures ≡ u.failures + restarts
 walk_failed z k hi u t restarts v (Key n) fits = fits.counts.failures
 walk_failed z k hi u t restarts v (Range n) fits = fits.counts.failures
 
-module _ (z : Sizes) (k : List ℕ) (hi : Bound) (u : View) (n : Seek) (t : Trail) where
+module _ (z : Sizes) (k : List ℕ) (hi : Bound) (u : View) (n : Seek) (t : PathBuffer) where
   walking_failed : (v : View) → seeks.IsWalking z k hi u n t v → v.failures ≡ u.failures + n.restarts
   walking_failed v q =
       let counted = walk_failed z k hi q.opened t n.restarts v n.walk q.walk in
@@ -134,7 +134,7 @@ module _ (z : Sizes) (k : List ℕ) (hi : Bound) (u : View) (n : Seek) (t : Trai
 
 call_failed : (z : Sizes) (turns : ℕ) (u : View) (c : Caller) (v : View) (w : Wish) (n : Call) → GoesOn z w turns u c n v → v.failures ≡ u.failures → restarts_of n ≡ 0
 call_failed z turns u c v w (call.Write n) goes none = let f = write_fits z turns u c n v w goes in write_failed z u f.0 n c.room (places_of c.limbo) v n.stage f.1.stage none
-call_failed z turns u c v w (call.Seek n) goes none = seek_failed z c.key.items c.hi u n c.trail v n.stage (seek_fits z turns u c n v w goes) none
+call_failed z turns u c v w (call.Seek n) goes none = seek_failed z c.key.items c.hi u n c.path_buffer v n.stage (seek_fits z turns u c n v w goes) none
 
 pub restarts_never : RestartLaw
 restarts_never z wish given turns u c v calling none = call_failed z turns u c v wish c.call calling.goes_on none

@@ -13,7 +13,7 @@ use Rattle.art_call.specs.ArtFind.Driven.{get_done}
 use Rattle.art_key.specs.declared.bounds.Bound.{Bound}
 use Rattle.art_call.proofs.ArtLook.Stages as look_stages
 use Rattle.art_call.specs.ArtLook.Looks as looks
-use Rattle.art_call.specs.ArtLook.declared.trails.Trail.{Trail}
+use Rattle.art_call.specs.ArtLook.declared.path_buffers.PathBuffer.{PathBuffer}
 use Rattle.art_call.specs.ArtSeek.Seeks.{Fits, StageFits, asks_at}
 use Rattle.art_call.specs.ArtSeek.Walks as walks
 use Rattle.art_call.specs.ArtSeek.Walks.{deed_at, of_value}
@@ -53,11 +53,11 @@ look_going : (b : Bool) → (if b then Some Seen else None) ≡ None → b ≡ f
 look_going true is = cc
 look_going false is = refl
 
-walk_reads : (z : Sizes) (k : List ℕ) (hi : Bound) (u : View) (t : Trail) (restarts : ℕ) (v : View) (n : Walk) → walks.Fits z k hi u n t restarts v → walks.ended_at n ≡ None → IsReading u v
+walk_reads : (z : Sizes) (k : List ℕ) (hi : Bound) (u : View) (t : PathBuffer) (restarts : ℕ) (v : View) (n : Walk) → walks.Fits z k hi u n t restarts v → walks.ended_at n ≡ None → IsReading u v
 walk_reads z k hi u t restarts v (Key n) fits going = still_reading z k (get_done k) n.depth n.stage u v (map_none of_value (descents.ended_at n.stage) going) fits.fits
 walk_reads z k hi u t restarts v (Range n) fits going = look_stages.still_reading z k hi n.depth t n.stage u v (look_going (looks.has_ended n.stage) going) fits.fits
 
-walk_founded : (z : Sizes) (k : List ℕ) (hi : Bound) (u : View) (t : Trail) (restarts : ℕ) (v : View) (n : Walk) → v.held ≡ [] → walks.Fits z k hi u n t restarts v → IfSome (walks.asks n) (IsCellFounded z v)
+walk_founded : (z : Sizes) (k : List ℕ) (hi : Bound) (u : View) (t : PathBuffer) (restarts : ℕ) (v : View) (n : Walk) → v.held ≡ [] → walks.Fits z k hi u n t restarts v → IfSome (walks.asks n) (IsCellFounded z v)
 walk_founded z k hi u t restarts v (Key n) free fits = descent_founded z k (get_done k) n.depth n.stage u v free fits.fits
 walk_founded z k hi u t restarts v (Range n) free fits = look_founded z k hi n.depth n.stage t u v free fits.fits
 
@@ -75,7 +75,7 @@ module _ (z : Sizes) (p : ℕ) (m : Memory) (f : Views) (m' : Memory) (f' : View
         let calm = frame_calm z p m f m' f' v w at (telling d) a answer is row in
         record { failures = calm.failures; keeps = λ own stays. calm_current z p m f m' f' v w at calm stays (current own) }
 
-    seek_goes : (k : List ℕ) (hi : Bound) (n : Seek) (t : Trail) (s : SeekStage) → StageFits z k hi u s n t v → asks_at s n ≡ Some a → Goes
+    seek_goes : (k : List ℕ) (hi : Bound) (n : Seek) (t : PathBuffer) (s : SeekStage) → StageFits z k hi u s n t v → asks_at s n ≡ Some a → Goes
     seek_goes k hi n t stage.Pinning fits is = frame_goes (pinning_frame n.pinning a is)
     seek_goes k hi n t stage.Walking fits is =
         let q = fits.walking in
@@ -88,7 +88,7 @@ module _ (z : Sizes) (p : ℕ) (m : Memory) (f : Views) (m' : Memory) (f' : View
     seek_goes k hi n t stage.Ended fits is = absurd (cc)
 
   -- what was asked for was made
-  pub seek_makes : (k : List ℕ) (hi : Bound) (n : Seek) (t : Trail) (a : Seek) (s : Trail) → Fits z k hi u n t v → (v.own ≡ u.own → AreCurrent m v) → SeekMakes z k hi v n t w a s
+  pub seek_makes : (k : List ℕ) (hi : Bound) (n : Seek) (t : PathBuffer) (a : Seek) (s : PathBuffer) → Fits z k hi u n t v → (v.own ≡ u.own → AreCurrent m v) → SeekMakes z k hi v n t w a s
       → (w.failures ≡ v.failures) × (w.own ≡ u.own → AreCurrent m' w)
   seek_makes k hi n t a s fits current makes =
       let g = seek_goes (deed_at n.walk k hi t) makes.asked makes.answer makes.row current k hi n t n.stage fits makes.asks in

@@ -53,10 +53,10 @@ use Rattle.art_call.proofs.ArtLook.Stages.{still_reading as still_looking}
 use Rattle.art_call.specs.ArtLook.Looks as looks
 use Rattle.art_call.specs.ArtLook.Seen.{look_done}
 use Rattle.art_call.specs.ArtLook.declared.looks.Seen.{Seen as SeenOf}
-use Rattle.art_call.specs.ArtLook.declared.trails.Trail.{Trail}
-use Rattle.art_call.specs.ArtMake.Making.{Fits as MakeFits, ended_at as make_ended}
-use Rattle.art_call.specs.ArtMake.declared.making.Making.{Making}
-use Rattle.art_call.specs.ArtMake.declared.making.Making.TheVariants.{Upgrading, Claiming, Filling, Writing, Committing, Releasing, ReleasingNode, GivingUp, Ended}
+use Rattle.art_call.specs.ArtLook.declared.path_buffers.PathBuffer.{PathBuffer}
+use Rattle.art_call.specs.ArtMake.Apply.{Fits as MakeFits, ended_at as make_ended}
+use Rattle.art_call.specs.ArtMake.declared.apply.Apply.{Apply}
+use Rattle.art_call.specs.ArtMake.declared.apply.Apply.TheVariants.{Upgrading, Claiming, Filling, Writing, Committing, Releasing, ReleasingNode, GivingUp, Ended}
 use Rattle.art_call.specs.ArtPlan.declared.changes.Change.{Change}
 use Rattle.art_call.specs.ArtPlan.Remove.Removals.{removed}
 use Rattle.art_call.proofs.ArtSeek.Closes.{closed_sought, over_told}
@@ -104,16 +104,16 @@ abbrev MadeSo : View → View → Deed → Type 0
 MadeSo u v what = SeesEvent u v None ⊎ MakesEvent u v what
 
 module _ (z : Sizes) (c : Change) (u v : View) where
-  making_made : (m : Making) → MakeFits z c m u v → make_ended m ≡ None → MadeSo u v c.effects.deed
-  making_made (Upgrading i) fits on = let r = fits.stage.1.same.rest in inl (ap (λ (o : Rest). o.seen) r, ap (λ (o : Rest). o.own) r)
-  making_made (Claiming b) fits on = let r = fits.stage.1.same.rest in inl (ap (λ (o : Rest). o.seen) r, ap (λ (o : Rest). o.own) r)
-  making_made (Filling b place) fits on = let r = fits.stage.2.same.rest in inl (ap (λ (o : Rest). o.seen) r, ap (λ (o : Rest). o.own) r)
-  making_made (Writing j) fits on = let r = fits.stage.1.same.rest in inl (ap (λ (o : Rest). o.seen) r, ap (λ (o : Rest). o.own) r)
-  making_made Committing fits on = let r = fits.stage.same.rest in inl (ap (λ (o : Rest). o.seen) r, ap (λ (o : Rest). o.own) r)
-  making_made (Releasing i) fits on = inr fits.stage.1.done.event
-  making_made (ReleasingNode b) fits on = inr fits.stage.1.done.event
-  making_made (GivingUp locked released e) fits on = let r = fits.stage.2.failed.rest in inl (ap (λ (o : Rest). o.seen) r, ap (λ (o : Rest). o.own) r)
-  making_made (Ended r) fits on = cc
+  apply_made : (m : Apply) → MakeFits z c m u v → make_ended m ≡ None → MadeSo u v c.effects.deed
+  apply_made (Upgrading i) fits on = let r = fits.stage.1.same.rest in inl (ap (λ (o : Rest). o.seen) r, ap (λ (o : Rest). o.own) r)
+  apply_made (Claiming b) fits on = let r = fits.stage.1.same.rest in inl (ap (λ (o : Rest). o.seen) r, ap (λ (o : Rest). o.own) r)
+  apply_made (Filling b place) fits on = let r = fits.stage.2.same.rest in inl (ap (λ (o : Rest). o.seen) r, ap (λ (o : Rest). o.own) r)
+  apply_made (Writing j) fits on = let r = fits.stage.1.same.rest in inl (ap (λ (o : Rest). o.seen) r, ap (λ (o : Rest). o.own) r)
+  apply_made Committing fits on = let r = fits.stage.same.rest in inl (ap (λ (o : Rest). o.seen) r, ap (λ (o : Rest). o.own) r)
+  apply_made (Releasing i) fits on = inr fits.stage.1.done.event
+  apply_made (ReleasingNode b) fits on = inr fits.stage.1.done.event
+  apply_made (GivingUp locked released e) fits on = let r = fits.stage.2.failed.rest in inl (ap (λ (o : Rest). o.seen) r, ap (λ (o : Rest). o.own) r)
+  apply_made (Ended r) fits on = cc
 
 module _ (z : Sizes) (u : View) (r : Room) (v : View) where
   still_none : StillTries u v → SeesEvent u v None
@@ -125,18 +125,18 @@ module _ (z : Sizes) (u : View) (r : Room) (v : View) where
 
   insert_made : (m : Insertion) (s : InsertStage) → length r.row.key.items ≤ 64 → inserts.StageFits z u s m r v → inserts.entered_at s ≡ None → MadeSo u v (inserted r.row)
   insert_made m insert.Finding short fits on = inl (still_none (insert_free z u m r v short insert.Finding refl refl fits).still)
-  insert_made m insert.Supplying short fits on = inl (still_none (insert_free z u m r v short insert.Supplying refl refl fits).still)
+  insert_made m insert.Reserve short fits on = inl (still_none (insert_free z u m r v short insert.Reserve refl refl fits).still)
   insert_made m insert.Vouching short fits on = inl (still_none (insert_free z u m r v short insert.Vouching refl refl fits).still)
-  insert_made m insert.Making short fits on = made_since fits.0.early (inserted r.row) r.change.effects.deed fits.0.deed fits.0.base (making_made z r.change fits.0.early v m.making fits.0.fits fits.1)
+  insert_made m insert.Apply short fits on = made_since fits.0.early (inserted r.row) r.change.effects.deed fits.0.deed fits.0.base (apply_made z r.change fits.0.early v m.apply fits.0.fits fits.1)
   insert_made m (insert.Ended e) short fits on = cc
 
   erase_made : (m : Erasure) (s : EraseStage) → length r.gone.key.items ≤ 64 → erases.StageFits z u s m r v → erases.erased_at s ≡ None → MadeSo u v (removed r.gone)
   erase_made m erase.Finding short fits on = inl (still_none (erase_free z u m r v short erase.Finding refl refl fits).still)
-  erase_made m (erase.Supplying layout) short fits on = inl (still_none (erase_free z u m r v short (erase.Supplying layout) refl refl fits).still)
+  erase_made m (erase.Reserve layout) short fits on = inl (still_none (erase_free z u m r v short (erase.Reserve layout) refl refl fits).still)
   erase_made m (erase.Reading q) short fits on = inl (still_none (erase_free z u m r v short (erase.Reading q) refl refl fits).still)
   erase_made m erase.Vouching short fits on = inl (still_none (erase_free z u m r v short erase.Vouching refl refl fits).still)
   erase_made m erase.Lowering short fits on = inl (still_none (erase_free z u m r v short erase.Lowering refl refl fits).still)
-  erase_made m erase.Making short fits on = made_since fits.0.early (removed r.gone) r.change.effects.deed fits.0.deed fits.0.base (making_made z r.change fits.0.early v m.making fits.0.fits fits.1)
+  erase_made m erase.Apply short fits on = made_since fits.0.early (removed r.gone) r.change.effects.deed fits.0.deed fits.0.base (apply_made z r.change fits.0.early v m.apply fits.0.fits fits.1)
   erase_made m (erase.Ended e) short fits on = cc
 
 no_end : {A B : Type 0} (f : A → B) (o : Option A) → option_map f o ≡ None → o ≡ None
@@ -262,17 +262,17 @@ seen_going : (b : Bool) → (if b then Some Seen else None) ≡ None → b ≡ f
 seen_going true is = cc
 seen_going false is = refl
 
-module _ (z : Sizes) (k : List ℕ) (hi : Bound) (u : View) (t : Trail) (n : ℕ) (v : View) where
+module _ (z : Sizes) (k : List ℕ) (hi : Bound) (u : View) (t : PathBuffer) (n : ℕ) (v : View) where
   walk_reads : (w : Walk) → walks.Fits z k hi u w t n v → walks.ended_at w ≡ None → OnlyReads u v
   walk_reads (Key m) fits going = (still_reading z k (get_done k) m.depth m.stage u v (no_end of_value (descents.ended_at m.stage) going) fits.fits).only
   walk_reads (Range m) fits going = (still_looking z k hi m.depth t m.stage u v (seen_going (looks.has_ended m.stage) going) fits.fits).only
 
 -- it told nothing yet, or what its end tells
-record SeekTells (k : List ℕ) (hi : Bound) (u : View) (m : Seek) (t : Trail) (v : View) : Type 0 where
+record SeekTells (k : List ℕ) (hi : Bound) (u : View) (m : Seek) (t : PathBuffer) (v : View) : Type 0 where
   ends : IsEnd m.walk m.left m.outcome
   tells : SeesEvent u v (told_of m.outcome k hi t m.walk)
 
-module _ (z : Sizes) (k : List ℕ) (hi : Bound) (u : View) (m : Seek) (t : Trail) (v : View) (short : length k ≤ 64) where
+module _ (z : Sizes) (k : List ℕ) (hi : Bound) (u : View) (m : Seek) (t : PathBuffer) (v : View) (short : length k ≤ 64) where
   seek_tells : (s : SeekStage) → seeks.StageFits z k hi u s m t v → (v.own ≡ u.own) ⊎ SeekTells k hi u m t v
   seek_tells seek.Pinning fits = inl (pinning_same z u v m.pinning fits.pinning fits.going).1
   seek_tells seek.Walking fits =
@@ -287,7 +287,7 @@ module _ (z : Sizes) (k : List ℕ) (hi : Bound) (u : View) (m : Seek) (t : Trai
   seek_tells seek.Ended fits = inr record { ends = fits.over.ends; tells = (closed_sought z k hi u m t v fits short).tells }
 
 module _ (u v : View) (left : ℕ) where
-  get_told : (k : ArrayVec ℕ) (hi : Bound) (t : Trail) (w : Walk) (o : SeekOutcome) → aim_of w ≡ aim.Key → IsEnd w left o → SeesEvent u v (told_of o k.items hi t w) → HasTold (Get k) u v
+  get_told : (k : ArrayVec ℕ) (hi : Bound) (t : PathBuffer) (w : Walk) (o : SeekOutcome) → aim_of w ≡ aim.Key → IsEnd w left o → SeesEvent u v (told_of o k.items hi t w) → HasTold (Get k) u v
   get_told k hi t w (Found value) is ends sees = inr (outcome.Found value, get_done k.items (Some value), refl, sees)
   get_told k hi t w Absent is ends sees = inr (outcome.Absent, get_done k.items None, refl, sees)
   get_told k hi t w Busy is ends sees = inl sees.1
@@ -298,7 +298,7 @@ module _ (u v : View) (left : ℕ) where
   seen_told lo hi None sees = inl sees.1
   seen_told lo hi (Some seen) sees = inr (outcome.Seen seen, look_done seen, refl, sees)
 
-  look_told : (lo : ArrayVec ℕ) (hi : Bound) (t : Trail) (w : Walk) (o : SeekOutcome) → aim_of w ≡ aim.Range → IsEnd w left o → SeesEvent u v (told_of o lo.items hi t w) → HasTold (Look lo hi) u v
+  look_told : (lo : ArrayVec ℕ) (hi : Bound) (t : PathBuffer) (w : Walk) (o : SeekOutcome) → aim_of w ≡ aim.Range → IsEnd w left o → SeesEvent u v (told_of o lo.items hi t w) → HasTold (Look lo hi) u v
   look_told lo hi t (Range m) Seen is ends sees = seen_told lo hi (looks.seen_at lo.items hi t m.stage) sees
   look_told lo hi t (Range m) Busy is ends sees = inl sees.1
   look_told lo hi t (Range m) (Found value) is ends sees = absurd (range_not_found m left value ends)
@@ -308,19 +308,19 @@ module _ (u v : View) (left : ℕ) where
 -- ---- a call
 
 module _ (z : Sizes) (turns : ℕ) (u : View) (c : Caller) (v : View) where
-  get_tells : (k : ArrayVec ℕ) (hi : Bound) (m : Seek) → (v.own ≡ u.own) ⊎ SeekTells k.items hi u m c.trail v → aim_of m.walk ≡ aim.Key → HasTold (Get k) u v
+  get_tells : (k : ArrayVec ℕ) (hi : Bound) (m : Seek) → (v.own ≡ u.own) ⊎ SeekTells k.items hi u m c.path_buffer v → aim_of m.walk ≡ aim.Key → HasTold (Get k) u v
   get_tells k hi m (inl none) is = inl none
-  get_tells k hi m (inr some) is = get_told u v m.left k hi c.trail m.walk m.outcome is some.ends some.tells
+  get_tells k hi m (inr some) is = get_told u v m.left k hi c.path_buffer m.walk m.outcome is some.ends some.tells
 
-  look_tells : (lo : ArrayVec ℕ) (hi : Bound) (m : Seek) → (v.own ≡ u.own) ⊎ SeekTells lo.items hi u m c.trail v → aim_of m.walk ≡ aim.Range → HasTold (Look lo hi) u v
+  look_tells : (lo : ArrayVec ℕ) (hi : Bound) (m : Seek) → (v.own ≡ u.own) ⊎ SeekTells lo.items hi u m c.path_buffer v → aim_of m.walk ≡ aim.Range → HasTold (Look lo hi) u v
   look_tells lo hi m (inl none) is = inl none
-  look_tells lo hi m (inr some) is = look_told u v m.left lo hi c.trail m.walk m.outcome is some.ends some.tells
+  look_tells lo hi m (inr some) is = look_told u v m.left lo hi c.path_buffer m.walk m.outcome is some.ends some.tells
 
   going_tells : (w : Wish) (a : Call) → GoesOn z w turns u c a v → HasTold w u v
   going_tells (Insert k value) (call.Write m) on = insert_told z turns u c m v k value (writing_tells z turns u c m v job.Insert k value on)
   going_tells (Remove k) (call.Write m) on = remove_told z turns u c m v k (writing_tells z turns u c m v job.Remove k 0 on)
-  going_tells (Get k) (call.Seek m) on = get_tells k c.hi m (seek_tells z k.items c.hi u m c.trail v on.short m.stage on.fits) on.aim_is
-  going_tells (Look lo hi) (call.Seek m) on = look_tells lo hi m (seek_tells z lo.items hi u m c.trail v on.0.short m.stage on.0.fits) on.0.aim_is
+  going_tells (Get k) (call.Seek m) on = get_tells k c.hi m (seek_tells z k.items c.hi u m c.path_buffer v on.short m.stage on.fits) on.aim_is
+  going_tells (Look lo hi) (call.Seek m) on = look_tells lo hi m (seek_tells z lo.items hi u m c.path_buffer v on.0.short m.stage on.0.fits) on.0.aim_is
   going_tells (Insert k value) (call.Seek m) on = absurd on
   going_tells (Remove k) (call.Seek m) on = absurd on
   going_tells (Get k) (call.Write m) on = absurd on

@@ -8,7 +8,7 @@ use Rattle.art_call.proofs.ArtAttempt.Given.{ask_looks, lower_asks_look, reads_l
 use Rattle.art_call.proofs.ArtErase.Finds as erase_finds
 use Rattle.art_call.specs.ArtAttempt.Asking.{IsAllowed}
 use Rattle.art_call.specs.ArtAttempt.Inserting as inserts
-use Rattle.art_call.specs.ArtAttempt.Rooms.{wants_of}
+use Rattle.art_call.specs.ArtAttempt.Rooms.{demand_of}
 use Rattle.art_call.specs.ArtAttempt.Trying.{StillTries}
 use Rattle.art_call.specs.ArtAttempt.declared.inserting.Inserting.{Inserting as Insertion}
 use Rattle.art_call.specs.ArtAttempt.declared.inserting.Stage.{Stage as InsertStage}
@@ -26,16 +26,16 @@ use Rattle.art_call.proofs.ArtFind.Allowed.{none_held}
 use Rattle.art_call.specs.ArtFind.Descents as descents
 use Rattle.art_call.specs.ArtFind.declared.verdicts.Verdict.{Verdict}
 use Rattle.art_call.specs.ArtFind.declared.verdicts.Verdict.TheVariants as verdict
-use Rattle.art_call.specs.ArtGather.Supplying as supplying
-use Rattle.art_call.specs.ArtGather.declared.supplying.Supplying.{Supplying}
-use Rattle.art_call.specs.ArtGather.declared.supplying.Wants.{Wants}
+use Rattle.art_call.specs.ArtGather.Reserve as reserve
+use Rattle.art_call.specs.ArtGather.declared.reserve.Reserve.{Reserve}
+use Rattle.art_call.specs.ArtGather.declared.reserve.Demand.{Demand}
 use Rattle.art_call.proofs.ArtMake.Told.{map_some}
-use Rattle.art_call.specs.ArtMake.Making as making
-use Rattle.art_call.specs.ArtMake.Making.{put_into, releases, so_many}
-use Rattle.art_call.specs.ArtMake.declared.making.Making.{Making}
-use Rattle.art_call.specs.ArtMake.declared.making.Making.TheVariants.{Upgrading, Claiming, Filling, Writing, Committing, Releasing, ReleasingNode, GivingUp, Ended}
-use Rattle.art_call.specs.ArtFind.Findings.{stand_at}
-use Rattle.art_call.specs.ArtFind.declared.findings.Stand.{Stand}
+use Rattle.art_call.specs.ArtMake.Apply as apply
+use Rattle.art_call.specs.ArtMake.Apply.{put_into, releases, so_many}
+use Rattle.art_call.specs.ArtMake.declared.apply.Apply.{Apply}
+use Rattle.art_call.specs.ArtMake.declared.apply.Apply.TheVariants.{Upgrading, Claiming, Filling, Writing, Committing, Releasing, ReleasingNode, GivingUp, Ended}
+use Rattle.art_call.specs.ArtFind.Findings.{position_at}
+use Rattle.art_call.specs.ArtFind.declared.findings.Position.{Position}
 use Rattle.art_call.specs.ArtPlan.Changes.{IsTarget, put_at, target_at}
 use Rattle.art_call.specs.ArtPlan.Whole.{HoldsWhole, IsNewBy, IsWhole, made_at, made_word}
 use Rattle.art_call.specs.ArtPlan.declared.changes.Change.{Change as ChangeOf}
@@ -86,18 +86,18 @@ module _ (z : Sizes) (m : Memory) (d : Deed) (c : ChangeOf) (u v : View) (a : Ac
       let allowed : IsAllowed z d c v (Upgrade x.stamp) = subst (IsAllowed z d c v) (sym same) may in
       subst (IsFounded z m v) same (allowed.stamp, not_locked_yet z u c i x v.held planned is holds)
 
-  making_founded : (n : Making) → making.Fits z c n u v → making.asks c n ≡ Some a → IsFounded z m v a
-  making_founded (Upgrading i) fits is =
+  apply_founded : (n : Apply) → apply.Fits z c n u v → apply.asks c n ≡ Some a → IsFounded z m v a
+  apply_founded (Upgrading i) fits is =
       let k = map_some (λ (x : Target). Upgrade x.stamp) (target_at c i) a is in
       upgrade_founded i fits.planned fits.stage.1.holds k.0 k.1 k.2
-  making_founded (Claiming b) fits is = asks_founded Claim (made_at b c) is (λ n. tt)
-  making_founded (Filling b place) fits is = asks_founded (λ (n : Node). Write (cell.Node n) place (made_word b c place)) (made_at b c) is (λ n. tt)
-  making_founded (Writing j) fits is = puts_founded (put_at c j) is
-  making_founded Committing fits is = asks_founded (λ (x : Target). Commit x.stamp.cell x.obsolete) (target_at c 0) is (λ x. tt)
-  making_founded (Releasing i) fits is = asks_founded releases (target_at c i) is (λ x. tt)
-  making_founded (ReleasingNode b) fits is = asks_founded (λ (n : Node). Release (cell.Node n) false) (made_at b c) is (λ n. tt)
-  making_founded (GivingUp locked released e) fits is = asks_founded (λ (x : Target). Release x.stamp.cell false) (target_at c released) is (λ x. tt)
-  making_founded (Ended r) fits is = absurd (cc)
+  apply_founded (Claiming b) fits is = asks_founded Claim (made_at b c) is (λ n. tt)
+  apply_founded (Filling b place) fits is = asks_founded (λ (n : Node). Write (cell.Node n) place (made_word b c place)) (made_at b c) is (λ n. tt)
+  apply_founded (Writing j) fits is = puts_founded (put_at c j) is
+  apply_founded Committing fits is = asks_founded (λ (x : Target). Commit x.stamp.cell x.obsolete) (target_at c 0) is (λ x. tt)
+  apply_founded (Releasing i) fits is = asks_founded releases (target_at c i) is (λ x. tt)
+  apply_founded (ReleasingNode b) fits is = asks_founded (λ (n : Node). Release (cell.Node n) false) (made_at b c) is (λ n. tt)
+  apply_founded (GivingUp locked released e) fits is = asks_founded (λ (x : Target). Release x.stamp.cell false) (target_at c released) is (λ x. tt)
+  apply_founded (Ended r) fits is = absurd (cc)
 
 -- ---- looks of an attempt, while nothing is held
 
@@ -128,31 +128,31 @@ descent_led z v (Some a) founded c is = (subst (IsCellFounded z v) (same_Some a 
 descent_led z v None founded c is = absurd (cc)
 
 -- the check of a place begins nothing
-insert_check_only : (t : Stand) (found : Verdict) (c : CellOf) → inserts.check_by found t ≡ Begin c → ⊥
+insert_check_only : (t : Position) (found : Verdict) (c : CellOf) → inserts.check_by found t ≡ Begin c → ⊥
 insert_check_only t (verdict.Found l value) c is = cc
 insert_check_only t verdict.Empty c is = cc
-insert_check_only t (verdict.OtherLeaf l at byte) c is = cc
-insert_check_only t (verdict.OtherPrefix n header at) c is = cc
-insert_check_only t (verdict.Free n header) c is = cc
+insert_check_only t (verdict.LeafMismatch l at byte) c is = cc
+insert_check_only t (verdict.PrefixMismatch n header at) c is = cc
+insert_check_only t (verdict.NoChild n header) c is = cc
 insert_check_only t verdict.Overlaps c is = cc
 insert_check_only t verdict.Torn c is = cc
 insert_check_only t verdict.Absent c is = cc
 
-erase_check_only : (t : Stand) (found : Verdict) (c : CellOf) → erases.check_by found t ≡ Begin c → ⊥
+erase_check_only : (t : Position) (found : Verdict) (c : CellOf) → erases.check_by found t ≡ Begin c → ⊥
 erase_check_only t (verdict.Found l value) c is = cc
 erase_check_only t verdict.Empty c is = cc
-erase_check_only t (verdict.OtherLeaf l at byte) c is = cc
-erase_check_only t (verdict.OtherPrefix n header at) c is = cc
-erase_check_only t (verdict.Free n header) c is = cc
+erase_check_only t (verdict.LeafMismatch l at byte) c is = cc
+erase_check_only t (verdict.PrefixMismatch n header at) c is = cc
+erase_check_only t (verdict.NoChild n header) c is = cc
 erase_check_only t verdict.Overlaps c is = cc
 erase_check_only t verdict.Torn c is = cc
 erase_check_only t verdict.Absent c is = cc
 
-insert_place_led : (z : Sizes) (v : View) (p : Option Stand) (o : Option Action) → IfSome o (IsCellFounded z v) → (c : CellOf) → inserts.asks_place p o ≡ Some (Begin c) → IsLedTo z v c
+insert_place_led : (z : Sizes) (v : View) (p : Option Position) (o : Option Action) → IfSome o (IsCellFounded z v) → (c : CellOf) → inserts.asks_place p o ≡ Some (Begin c) → IsLedTo z v c
 insert_place_led z v (Some t) o founded c is = absurd (insert_check_only t t.verdict c (same_Some (inserts.check_of t) (Begin c) is))
 insert_place_led z v None o founded c is = descent_led z v o founded c is
 
-erase_place_led : (z : Sizes) (v : View) (p : Option Stand) (o : Option Action) → IfSome o (IsCellFounded z v) → (c : CellOf) → erases.asks_place p o ≡ Some (Begin c) → IsLedTo z v c
+erase_place_led : (z : Sizes) (v : View) (p : Option Position) (o : Option Action) → IfSome o (IsCellFounded z v) → (c : CellOf) → erases.asks_place p o ≡ Some (Begin c) → IsLedTo z v c
 erase_place_led z v (Some t) o founded c is = absurd (erase_check_only t t.verdict c (same_Some (erases.check_of t) (Begin c) is))
 erase_place_led z v None o founded c is = descent_led z v o founded c is
 
@@ -164,49 +164,49 @@ module _ (z : Sizes) (m : Memory) (u b v : View) (had : HasFound m u v) (timely 
   cell_founded o is look free led = looks_founded z m d r.change v free a look may (λ c same. led c (is ∙ ap (λ (x : Action). Some x) same))
 
   -- or a supply, of an attempt that has told nothing
-  supplies_founded : (wants : Wants) (k : List ℕ) (value : ℕ) (early : View) (s : Supplying) → StillTries b early → StillTries b v → supplying.StageFits z wants k value s r.stock early v
-      → supplying.asks k value r.stock s ≡ Some a → IsFounded z m v a
-  supplies_founded wants k value early s base still fits is =
+  supplies_founded : (demand : Demand) (k : List ℕ) (value : ℕ) (early : View) (s : Reserve) → StillTries b early → StillTries b v → reserve.StageFits z demand k value s r.stock early v
+      → reserve.asks k value r.stock s ≡ Some a → IsFounded z m v a
+  supplies_founded demand k value early s base still fits is =
       let first = base.later.steps in
       let own : v.own ≡ u.own = ap (λ (o : Rest). o.own) still.rest ∙ begun in
-      supply_founded m u v had timely own z wants k value r.stock early a (omega (arith, late, first)) s fits is
+      supply_founded m u v had timely own z demand k value r.stock early a (omega (arith, late, first)) s fits is
 
   -- or a step of a change
-  change_founded : (early : View) (n : Making) → making.Fits z r.change n early v → making.asks r.change n ≡ Some a → IsFounded z m v a
-  change_founded early n fits is = making_founded z m d r.change early v a may n fits is
+  change_founded : (early : View) (n : Apply) → apply.Fits z r.change n early v → apply.asks r.change n ≡ Some a → IsFounded z m v a
+  change_founded early n fits is = apply_founded z m d r.change early v a may n fits is
 
   -- of an insert
   pub insert_founded : (i : Insertion) → length r.row.key.items ≤ 64 → (s : InsertStage) → inserts.StageFits z b s i r v → inserts.asks_at s i r ≡ Some a → IsFounded z m v a
   insert_founded i short insert.Finding fits is =
       let so = free_so z b i r v short insert.Finding refl refl fits in
-      cell_founded (inserts.finding_asks i.finding) is (ask_looks z (inserts.deed_at i r) v a (insert_finds.finding_allowed z b i r v fits a is)) so.still.free (insert_place_led z v (stand_at i.finding) (descents.asks i.finding.descent.stage)
+      cell_founded (inserts.finding_asks i.finding) is (ask_looks z (inserts.deed_at i r) v a (insert_finds.finding_allowed z b i r v fits a is)) so.still.free (insert_place_led z v (position_at i.finding) (descents.asks i.finding.descent.stage)
       (descent_founded z r.row.key.items (inserts.present_of r.row) i.finding.descent.depth i.finding.descent.stage fits.early v so.still.free fits.fits.descent))
-  insert_founded i short insert.Supplying fits is =
-      let so = free_so z b i r v short insert.Supplying refl refl fits in
-      supplies_founded (wants_of z i.stand.verdict) r.row.key.items r.row.value fits.0.early i.supplying fits.0.base so.still fits.0.fits.stage is
+  insert_founded i short insert.Reserve fits is =
+      let so = free_so z b i r v short insert.Reserve refl refl fits in
+      supplies_founded (demand_of z i.position.verdict) r.row.key.items r.row.value fits.0.early i.reserve fits.0.base so.still fits.0.fits.stage is
   insert_founded i short insert.Vouching fits is =
       let so = free_so z b i r v short insert.Vouching refl refl fits in
-      cell_founded (inserts.vouching_asks i) is (vouch_asks_look i.stand i.vouching a is) so.still.free (λ c asks. absurd (vouching_begins_none i.stand i.vouching c asks))
-  insert_founded i short insert.Making fits is = change_founded fits.0.early i.making fits.0.fits is
+      cell_founded (inserts.vouching_asks i) is (vouch_asks_look i.position i.vouching a is) so.still.free (λ c asks. absurd (vouching_begins_none i.position i.vouching c asks))
+  insert_founded i short insert.Apply fits is = change_founded fits.0.early i.apply fits.0.fits is
   insert_founded i short (insert.Ended e) fits is = absurd (cc)
 
   -- of a removal
   pub erase_founded : (i : Erasure) → length r.gone.key.items ≤ 64 → (s : EraseStage) → erases.StageFits z b s i r v → erases.asks_at s i r ≡ Some a → IsFounded z m v a
   erase_founded i short erase.Finding fits is =
       let so = erase_free.free_so z b i r v short erase.Finding refl refl fits in
-      cell_founded (erases.finding_asks i.finding) is (ask_looks z (erases.absent r.gone) v a (erase_finds.finding_allowed z b i r v fits a is)) so.still.free (erase_place_led z v (stand_at i.finding) (descents.asks i.finding.descent.stage)
+      cell_founded (erases.finding_asks i.finding) is (ask_looks z (erases.absent r.gone) v a (erase_finds.finding_allowed z b i r v fits a is)) so.still.free (erase_place_led z v (position_at i.finding) (descents.asks i.finding.descent.stage)
       (descent_founded z r.gone.key.items (erases.absent_of r.gone) i.finding.descent.depth i.finding.descent.stage fits.early v so.still.free fits.fits.descent))
-  erase_founded i short (erase.Supplying layout) fits is =
-      let so = erase_free.free_so z b i r v short (erase.Supplying layout) refl refl fits in
-      supplies_founded (erases.wants_of z layout) r.gone.key.items 0 fits.0.early i.supplying fits.0.base so.still fits.0.fits.stage is
+  erase_founded i short (erase.Reserve layout) fits is =
+      let so = erase_free.free_so z b i r v short (erase.Reserve layout) refl refl fits in
+      supplies_founded (erases.demand_of z layout) r.gone.key.items 0 fits.0.early i.reserve fits.0.base so.still fits.0.fits.stage is
   erase_founded i short (erase.Reading q) fits is =
       let so = erase_free.free_so z b i r v short (erase.Reading q) refl refl fits in
-      cell_founded (erases.reading_asks i q) is (reads_look i.stand.stamp q a is) so.still.free (λ c asks. absurd (reads_only i.stand.stamp q c asks))
+      cell_founded (erases.reading_asks i q) is (reads_look i.position.stamp q a is) so.still.free (λ c asks. absurd (reads_only i.position.stamp q c asks))
   erase_founded i short erase.Vouching fits is =
       let so = erase_free.free_so z b i r v short erase.Vouching refl refl fits in
-      cell_founded (erases.vouching_asks i) is (vouch_asks_look i.stand i.vouching a is) so.still.free (λ c asks. absurd (vouching_begins_none i.stand i.vouching c asks))
+      cell_founded (erases.vouching_asks i) is (vouch_asks_look i.position i.vouching a is) so.still.free (λ c asks. absurd (vouching_begins_none i.position i.vouching c asks))
   erase_founded i short erase.Lowering fits is =
       let so = erase_free.free_so z b i r v short erase.Lowering refl refl fits in
-      cell_founded (erases.lower_asks i) is (lower_asks_look i.stand i.lowering a is) so.still.free (lower_begins z r.gone.key.items i.stand fits.0.lower i.lowering r.desk r.lower fits.0.early v fits.0.fits.stage)
-  erase_founded i short erase.Making fits is = change_founded fits.0.early i.making fits.0.fits is
+      cell_founded (erases.lower_asks i) is (lower_asks_look i.position i.lowering a is) so.still.free (lower_begins z r.gone.key.items i.position fits.0.lower i.lowering r.read_set r.lower fits.0.early v fits.0.fits.stage)
+  erase_founded i short erase.Apply fits is = change_founded fits.0.early i.apply fits.0.fits is
   erase_founded i short (erase.Ended e) fits is = absurd (cc)

@@ -8,7 +8,7 @@ use Rattle.art_call.specs.Calls.{IsCalling, Wish, told_by}
 use Rattle.art_runs.proofs.Growing.{Grows, StepMade, grows_most, grows_none, grows_then, made_length, none_then, same_none, step_grows, step_made}
 use Rattle.art_runs.proofs.Told.{HasTold, calling_tells}
 use Rattle.art_runs.specs.Ops.{EndsAsCalled, Goes, IsRunOfOps, IsTurnOf, IsUnderWay, caller_in, has_ended, last_in, outcome_in}
-use Rattle.art_runs.specs.Runs.{IsCarriedOn, Makes, MakesNone, MakesOnce, MakesOneAtMost}
+use Rattle.art_runs.specs.Runs.{Makes, MakesNone, MakesOnce, MakesOneAtMost}
 use Rattle.art_runs.specs.declared.ops.Op.{Op}
 use Rattle.art_step.specs.Events.{MakesEvent, SeesEvent}
 use Rattle.art_step.specs.Histories.{IsAnswered, IsLegal, IsLegalFrom, becomes, event, run}
@@ -81,11 +81,11 @@ run_grows p ts k xs l ys run =
     ts k xs l ys run (grows_none v v (refl, refl))
 
 -- the op goes on for what it was begun for; if it takes turns, it ends as its call did
-record Carried (p : ℕ) (w : Wish) (given most : ℕ) (u : View) (fresh : Type 0) (k : Contents) (xs : List Op) : Type 0 where
-  op : Op
-  is : slice_get xs p ≡ Some op
-  calling : IsCalling k.sizes w given most u (caller_in op) (view_at k.views p)
-  ends : fresh → EndsAsCalled op
+pub record Carried (p : ℕ) (w : Wish) (given most : ℕ) (u : View) (fresh : Type 0) (k : Contents) (xs : List Op) : Type 0 where
+  pub op : Op
+  pub is : slice_get xs p ≡ Some op
+  pub calling : IsCalling k.sizes w given most u (caller_in op) (view_at k.views p)
+  pub ends : fresh → EndsAsCalled op
 
 module _ (p : ℕ) (w : Wish) (given most : ℕ) (u : View) (fresh : Type 0) (k : Contents) (xs : List Op) (m : Contents) (zs : List Op) where
   carried_stays : Stays p k xs m zs → Carried p w given most u fresh k xs → Carried p w given most u fresh m zs
@@ -110,7 +110,7 @@ module _ (p : ℕ) (w : Wish) (given most : ℕ) (u : View) (fresh : Type 0) (k 
 no_outcome : (a : Op) → outcome_in a ≡ None → EndsAsCalled a
 no_outcome a none o is = absurd (cc (none, is))
 
-carried : (p : ℕ) (a : Op) (w : Wish) (given most : ℕ) (u : View) (ts : List ℕ) (k : Contents) (xs : List Op) (l : Contents) (ys : List Op) → IsRunOfOps ts k xs l ys → slice_get xs p ≡ Some a
+pub carried : (p : ℕ) (a : Op) (w : Wish) (given most : ℕ) (u : View) (ts : List ℕ) (k : Contents) (xs : List Op) (l : Contents) (ys : List Op) → IsRunOfOps ts k xs l ys → slice_get xs p ≡ Some a
     → IsCalling k.sizes w given most u (caller_in a) (view_at k.views p) → Carried p w given most u (outcome_in a ≡ None) l ys
 carried p a w given most u ts k xs l ys run is calling =
     op_keeps p (λ m zs. Carried p w given most u (outcome_in a ≡ None) m zs)
@@ -265,12 +265,12 @@ module _ (p : ℕ) (ts : List ℕ) (k : Contents) (xs : List Op) (l : Contents) 
     one_at_most w (inl none) = inl (makes_none none)
     one_at_most w (inr now) = inr (now.0, now.1, now.2, makes_once now.1 now.3)
 
-    makes_so : (d : Option Deed) → SeesEvent u (view_at l.views p) d → Makes ts k xs l ys p d
+    pub makes_so : (d : Option Deed) → SeesEvent u (view_at l.views p) d → Makes ts k xs l ys p d
     makes_so None sees = makes_none sees.1
     makes_so (Some what) sees = makes_once what sees
 
   -- where it had told its event before, it tells nothing more
-  told_before : (w : Wish) (u : View) (what : Deed) → MakesEvent u (view_at k.views p) what → HasTold w u (view_at l.views p) → MakesNone ts k xs l ys p
+  pub told_before : (w : Wish) (u : View) (what : Deed) → MakesEvent u (view_at k.views p) what → HasTold w u (view_at l.views p) → MakesNone ts k xs l ys p
   told_before w u what made (inl none) =
       let first = made_length u (view_at k.views p) what made in
       let last = ap (λ (o : List ℕ). length o) none in
@@ -284,24 +284,11 @@ module _ (p : ℕ) (ts : List ℕ) (k : Contents) (xs : List Op) (l : Contents) 
   by_told w u (inl own) tells = one_at_most u own w tells
   by_told w u (inr before) tells = inl (told_before w u before.1 before.3 tells)
 
-  pub carried_on : (a : Op) (w : Wish) (given most : ℕ) (u : View) → slice_get xs p ≡ Some a → IsCalling k.sizes w given most u (caller_in a) (view_at k.views p)
-      → IsCarriedOn ts k xs l ys p a w given most u
-  carried_on a w given most u is calling =
-      let c = carried p a w given most u ts k xs l ys run is calling in
-      let tells = calling_tells l.sizes w given most u (caller_in c.op) (view_at l.views p) c.calling in
-      record {
-        now = c.op;
-        is = c.is;
-        calling = c.calling;
-        once = by_told w u (calling_tells k.sizes w given most u (caller_in a) (view_at k.views p) calling) tells;
-        told = λ what made. told_before w u what made tells;
-        called = λ fresh o at. c.ends fresh o at l.sizes w given most u (view_at l.views p) c.calling;
-        answers = λ fresh none o at. makes_so u none.1 (told_by w o) (c.ends fresh o at l.sizes w given most u (view_at l.views p) c.calling).tells;
-      }
-
   -- the pass of an op that is there makes one event at most, of an answer to its wish
   pub op_makes : (a : Op) (w : Wish) (given most : ℕ) (u : View) → slice_get xs p ≡ Some a → IsCalling k.sizes w given most u (caller_in a) (view_at k.views p) → MakesOneAtMost ts k xs l ys p w
-  op_makes a w given most u is calling = (carried_on a w given most u is calling).once
+  op_makes a w given most u is calling =
+      let c = carried p a w given most u ts k xs l ys run is calling in
+      by_told w u (calling_tells k.sizes w given most u (caller_in a) (view_at k.views p) calling) (calling_tells l.sizes w given most u (caller_in c.op) (view_at l.views p) c.calling)
 
   -- where there is no op, the pass makes none
   pub nobody_makes : slice_get xs p ≡ None → MakesNone ts k xs l ys p

@@ -23,7 +23,7 @@ use Rattle.art_call.specs.ArtFrame.declared.stocks.Stock.{Stock}
 use Rattle.art_machine.specs.declared.actions.Action.{Action}
 use Rattle.art_machine.specs.declared.actions.Answer.{Answer}
 use Rattle.art_runs.proofs.Calm.{IsFounded, IsMoment, calm_current, frame_calm}
-use Rattle.art_runs.proofs.Making.{IsRelease, NeedsCurrent, step_calm, step_keeps}
+use Rattle.art_runs.proofs.Apply.{IsRelease, NeedsCurrent, step_calm, step_keeps}
 use Rattle.art_runs.proofs.Phases.{erase_look, erase_release, insert_look, insert_release}
 use Rattle.art_runs.proofs.Tries.{erase_founded, insert_founded}
 use Rattle.art_runs.proofs.Versions.{own_grows}

@@ -6,3 +6,4 @@ pub mod OthersIdle
 pub mod Runs
 pub mod Solo
 pub mod Typed
+pub mod TypedOps

@@ -1,9 +1,11 @@
 -- What a list of turns comes to: one history, and the one event of each op.
 use Rattle.std.specs.List.{slice_get}
-use Rattle.std.specs.Prelude.{◌≡◌, ◌⊎◌, ◌++◌, ◌+◌, ◌<◌, ◌∷◌, ℕ, List, length, Option, Some, None}
-use Rattle.art_call.specs.Calls.{HasCalled, IsCalling, Wish, restarts_in, told_by}
+use Rattle.std.specs.Prelude.{◌≡◌, ◌⊎◌, ◌++◌, ◌+◌, ◌<◌, ◌≤◌, ◌∷◌, ℕ, List, length, true, Option, Some, None}
+use Rattle.art_call.specs.Calls.{HasCalled, IsCalling, StaysApart, Wish, restarts_in, told_by}
 use Rattle.art_call.specs.declared.outcomes.Outcome.{Outcome}
-use Rattle.art_runs.specs.Ops.{IsRunOfOps, IsTurnOf, caller_in, outcome_in}
+use Rattle.art_key.specs.declared.columns.Column.{Column}
+use Rattle.art_runs.specs.Ops.{IsApart, IsRunOfOps, IsTurnOf, caller_in, has_ended, outcome_in, turns_of}
+use Rattle.art_runs.specs.TypedOps.{AreTyped}
 use Rattle.art_runs.specs.declared.ops.Op.{Op}
 use Rattle.art_step.specs.Events.{MakesEvent, SeesEvent}
 use Rattle.art_step.specs.Histories.{IsAnswered, StartsWith, replay}
@@ -78,3 +80,7 @@ module _ (turns : List ℕ) (k : Contents) (xs : List Op) (l : Contents) (ys : L
         HasCalled l.sizes w given most (restarts_in (caller_in now)) u (caller_in now) o (view_at l.views p)
     pub answers : outcome_in a ≡ None → SeesEvent u (view_at k.views p) None → (o : Outcome) → outcome_in now ≡ Some o →
         Makes (told_by w o)
+    -- it has ended once it had the turns that it was given and a thousand more; steps of its call that it made before count as turns
+    pub ends : u.steps + given + 1000 ≤ (view_at k.views p).steps + turns_of p turns → has_ended now ≡ true
+    -- where all keys spell tuples of a schema, it meets none that begins its own, or that its own begins
+    pub apart : (schema : List Column) → AreTyped schema k xs → StaysApart (caller_in a) → IsApart now

@@ -22,11 +22,14 @@
 //! an answer has made the event of just that answer, and one that was refused, or has not decided yet, has made none
 //! (`IsCarriedOn`). What a look found are the rows of its range at the place of its event, since this is what the map answers there.
 //!
+//! *Each call ends.* Each turn of an op that has not ended is one step of its call, or its end; so an op that had the turns that it was
+//! given and a thousand more has ended (`ends` in `IsCarriedOn`).
+//!
 //! *An op alone.* An op that alone has turns, while every other pass is idle, meets no failure and never begins anew; it is not crowded,
 //! and busy only where it had few turns (`GoesAlone`).
 //!
 //! *Typed rows.* Where all keys spell tuples of a schema, the history is a legal one of typed rows, and the tree has the spellings of
-//! the rows that it leaves (`HasTypedHistory`).
+//! the rows that it leaves (`HasTypedHistory`). No op then meets a key that begins its own, or ends so (`apart` in `IsCarriedOn`).
 #![tactic(auto)]
 
 mod ops;

@@ -1,6 +1,6 @@
 //! A call of a pass, as one that takes turns.
 ghost use Rattle.std.specs.Prelude.{◌≡◌, ℕ, IfSome, true};
-ghost use Rattle.art_call.specs.Calls.{HasCalled, IsCaller, IsCalling, Wish, restarts_in};
+ghost use Rattle.art_call.specs.Calls.{HasCalled, IsCaller, IsCalling, StaysApart, Wish, restarts_in};
 ghost use Rattle.art_call.specs.Calls.{Get as get_wish, Insert as insert_wish, Look as look_wish, Remove as remove_wish};
 ghost use Rattle.art_key.specs.Bounds.{is_before};
 ghost use Rattle.art_call.specs.ArtLook.Seen.{bound_at};
@@ -24,8 +24,9 @@ pub struct Op {
 impl Op {
     /// An insert of the key with the value, in so many turns.
     pub fn insert(mut caller: Box<Caller>, key: &Key, value: u64, turns: u32) -> Op
-        ensures { (z : SizesOf) (u : View) → IsCaller z u caller.value →
+        ensures calling { (z : SizesOf) (u : View) → IsCaller z u caller.value →
             IsCalling z (insert_wish key.now value) turns turns u (caller_in result) u }
+        ensures apart { StaysApart (caller_in result) }
     {
         caller.begin_insert(key, value, turns);
         Op { caller, last: None }
@@ -33,8 +34,9 @@ impl Op {
 
     /// A removal of the row with the key, in so many turns.
     pub fn remove(mut caller: Box<Caller>, key: &Key, turns: u32) -> Op
-        ensures { (z : SizesOf) (u : View) → IsCaller z u caller.value →
+        ensures calling { (z : SizesOf) (u : View) → IsCaller z u caller.value →
             IsCalling z (remove_wish key.now) turns turns u (caller_in result) u }
+        ensures apart { StaysApart (caller_in result) }
     {
         caller.begin_remove(key, turns);
         Op { caller, last: None }
@@ -42,8 +44,9 @@ impl Op {
 
     /// A get of the key, in so many turns.
     pub fn get(mut caller: Box<Caller>, key: &Key, turns: u32) -> Op
-        ensures { (z : SizesOf) (u : View) → IsCaller z u caller.value →
+        ensures calling { (z : SizesOf) (u : View) → IsCaller z u caller.value →
             IsCalling z (get_wish key.now) turns turns u (caller_in result) u }
+        ensures apart { StaysApart (caller_in result) }
     {
         caller.begin_get(key, turns);
         Op { caller, last: None }
@@ -52,8 +55,9 @@ impl Op {
     /// A look of the range from the key on, before the bound, in so many turns.
     pub fn look(mut caller: Box<Caller>, lo: &Key, hi: &Bound, turns: u32) -> Op
         requires { is_before (bound_at (to_text lo.now.items)) hi.now ≡ true }
-        ensures { (z : SizesOf) (u : View) → IsCaller z u caller.value →
+        ensures calling { (z : SizesOf) (u : View) → IsCaller z u caller.value →
             IsCalling z (look_wish lo.now hi.now) turns turns u (caller_in result) u }
+        ensures apart { StaysApart (caller_in result) }
     {
         caller.begin_look(lo, hi, turns);
         Op { caller, last: None }

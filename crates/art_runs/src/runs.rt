@@ -20,9 +20,10 @@ use art_world::World;
 /// ended, does nothing.
 ///
 /// Whatever the turns: one legal history, whose rows the tree shows, begins with all that the passes have seen (`history`), and is one
-/// of typed rows where the keys spell tuples (`typed`). Each op made its event at one turn of its own, or none: just that of its answer,
-/// where it has ended (`each`). An op that alone has turns from its beginning on, while every other pass is idle, meets no failure, never
-/// begins anew, and is refused neither as crowded nor, with turns enough, as busy (`alone`).
+/// of typed rows where the keys spell tuples (`typed`). Each op made its event at one turn of its own, or none: just that of its
+/// answer, where it has ended; it has ended where it had turns enough; and it does not end as an overlap where the keys spell tuples
+/// (`each`). An op that alone has turns from its beginning on, while every other pass is idle, meets no failure, never begins anew, and
+/// is refused neither as crowded nor, with turns enough, as busy (`alone`).
 pub fn run(world: &mut World, ops: &mut [Op], turns: &[u32])
     requires passes { length ops.old ≤ length world.old.views }
     requires under_way { (p : ℕ) (op : OpOf) → slice_get ops.old p ≡ Some op →

@@ -55,7 +55,7 @@ pub record LooksNoMore (t : Table) (rows : List Row) (l : Looking) : Type 0 wher
   pub stopped : HasStopped l.attempt
   pub none : wants_look rows l.tiling (seen_by_look (answer_of t l.attempt)) ≡ false
 
--- The scan has ended, and its pass is q. Where it was refused, it was for what it says, before any step, and it never began anew.
+-- The scan has ended, and its pass is q. Where it was refused, it was for what it says, before any step, and it never restarted.
 pub record IsOver (t : Table) (lo hi : Tuple) (limit turns : ℕ) (p : Pass) (rows : List Row) (q : Pass) (r : Result More ScanFault)
     (restarts : ℕ) : Type 0 where
   pub pass : IsPassOf t q
@@ -129,7 +129,7 @@ DecidedAt p (stage.Over q (Err fault) n) = ⊥
 abbrev pub HasDecided : Pass → Running → Type 0
 HasDecided p r = DecidedAt p r.stage
 
--- ---- how often it began anew
+-- ---- how often it restarted
 
 -- together, up to the most that 64 bits hold
 abbrev pub restarts_of_looks : Looking → ℕ

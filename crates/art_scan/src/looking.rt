@@ -27,7 +27,7 @@ pub(crate) struct Looking {
     pub(crate) tiling: Tiling,
     /// The look.
     pub(crate) attempt: Attempt,
-    /// How often the looks before it began anew.
+    /// How often the looks before it restarted.
     pub(crate) restarts: u64,
 }
 
@@ -59,7 +59,7 @@ impl Looking {
     {
         'looks: loop {
             match self.attempt.step(table) {
-                Progress::Made(kind, event) => return Progress::Made(kind, event),
+                Progress::Made { kind, event } => return Progress::Made { kind, event },
                 Progress::Ended => {}
             }
             let Some(seen) = self.seen(table) else {
@@ -183,7 +183,7 @@ impl Looking {
         })
     }
 
-    /// How often it began anew, all looks together.
+    /// How often it restarted, all looks together.
     pub(crate) fn restarts(&self) -> u64
         ensures { result ≡ restarts_of_looks self.now }
     {

@@ -57,7 +57,7 @@ pub fn start_command(
     rows.clear();
     let stage = match command {
         Command::Insert(tuple, value) => {
-            Stage::Call(start(table, pass, Job::Insert(tuple, value), turns))
+            Stage::Call(start(table, pass, Job::Insert { tuple, value }, turns))
         }
         Command::Remove(tuple) => Stage::Call(start(table, pass, Job::Remove(tuple), turns)),
         Command::Get(tuple) => Stage::Call(start(table, pass, Job::Get(tuple), turns)),
@@ -147,7 +147,7 @@ impl Running {
         }
     }
 
-    /// How often it began anew, all looks of a scan together.
+    /// How often it restarted, all looks of a scan together.
     pub fn restarts(&self) -> u64
         ensures { result ≡ restarts_in self.now }
     {

@@ -19,9 +19,9 @@ pub enum Mark {
 #[derive(Clone, Copy)]
 pub enum Order<'a> {
     /// The command that the text says is started, in so many turns.
-    Start(u32, &'a [u8]),
+    Start { turns: u32, text: &'a [u8] },
     /// Steps are made until so many of them have the mark.
-    Until(Mark, u32),
+    Until { mark: Mark, count: u32 },
     /// So many steps are made.
     Step(u32),
     /// All steps that are left are made.
@@ -131,7 +131,7 @@ fn start_in(rest: &[u8]) -> Option<Order<'_>>
 {
     let (digits, text) = split_word(rest);
     let turns = number_in(digits)?;
-    Some(Order::Start(turns, text?))
+    Some(Order::Start { turns, text: text? })
 }
 
 /// A mark is waited for once, where no number stands after it.
@@ -145,7 +145,7 @@ fn until_in(rest: &[u8]) -> Option<Order<'_>>
         Some(digits) => times_in(digits)?,
         None => 1,
     };
-    Some(Order::Until(mark, times))
+    Some(Order::Until { mark, count: times })
 }
 
 /// The mark of this word.

@@ -44,8 +44,8 @@ pub(crate) fn follow(
     ensures leaves { IfErr result (λ stop. Leaves table.now stop seat.old room.old seat.new room.new) }
 {
     match order {
-        Order::Start(turns, text) => start(alloc, table, seat, room, turns, text),
-        Order::Until(mark, times) => {
+        Order::Start { turns, text } => start(alloc, table, seat, room, turns, text),
+        Order::Until { mark, count: times } => {
             if until(table, seat, room, mark, times)? {
                 return Ok(Told::At(mark));
             }

@@ -34,7 +34,7 @@ pub(crate) fn make_steps(table: &Table, running: &mut Running, room: &mut Room, 
 {
     for _ in 0..count {
         match running.step(table, room) {
-            Progress::Made(_, _) => {}
+            Progress::Made { .. } => {}
             Progress::Ended => return false,
         }
     }
@@ -57,7 +57,7 @@ pub(crate) fn make_until(
 {
     let mut found = 0;
     for _ in 0..u64::MAX {
-        let Progress::Made(kind, event) = running.step(table, room) else {
+        let Progress::Made { kind, event } = running.step(table, room) else {
             return false;
         };
         if mark.is_on(kind, event) {

@@ -7,7 +7,7 @@ use Rattle.art_look.proofs.Stages.{has_seen, still_reading}
 use Rattle.art_look.specs.Driven.{LookEnds}
 use Rattle.art_look.specs.Looks as looks
 use Rattle.art_look.specs.Seen.{look_done}
-use Rattle.art_look.specs.declared.trails.Trail.{Trail}
+use Rattle.art_look.specs.declared.path_buffers.PathBuffer.{PathBuffer}
 use Rattle.art_seek.proofs.Closes.{closed_sought}
 use Rattle.art_seek.proofs.Ends.{range_going, range_not_absent, range_not_found, range_seen}
 use Rattle.art_seek.specs.Seeks.{Fits, HasSought, WentIdle, StageFits, ended_at, outcome_at, seen_by}
@@ -32,7 +32,7 @@ ended_stage stage.Pinning p o is = cc
 ended_stage stage.Walking p o is = cc
 ended_stage stage.Closing p o is = cc
 
-module _ (z : Sizes) (k : List ℕ) (hi : KeyBound) (u : View) (m : Seek) (t : Trail) (v : View) (o : Outcome) (is : ended_at m ≡ Some o) (fits : Fits z k hi u m t v) where
+module _ (z : Sizes) (k : List ℕ) (hi : KeyBound) (u : View) (m : Seek) (t : PathBuffer) (v : View) (o : Outcome) (is : ended_at m ≡ Some o) (fits : Fits z k hi u m t v) where
   pub ended_closed : WentIdle z k hi u m t v
   ended_closed = subst (λ (s : SeekStage). StageFits z k hi u s m t v) (ended_stage m.stage m.outcome o is).0 fits
 
@@ -42,7 +42,7 @@ module _ (z : Sizes) (k : List ℕ) (hi : KeyBound) (u : View) (m : Seek) (t : T
   pub ended_sought : length k ≤ 64 → HasSought k hi u m t o v
   ended_sought short = subst (λ (p : Outcome). HasSought k hi u m t p v) (ended_stage m.stage m.outcome o is).1 (closed_sought z k hi u m t v ended_closed short)
 
-module _ (k : List ℕ) (hi : KeyBound) (t : Trail) (left : ℕ) where
+module _ (k : List ℕ) (hi : KeyBound) (t : PathBuffer) (left : ℕ) where
   pub look_told : (w : Walk) (o : Outcome) → aim_of w ≡ aim.Range → IsEnd w left o → told_of o k hi t w ≡ option_map look_done (seen_by (Some o) w k hi t)
   look_told w Seen look ends = refl
   look_told w Busy look ends = refl

@@ -3,7 +3,7 @@ use Rattle.std.proofs.Common.{◌≡◌, ℕ, ◌+◌, ◌≤◌, ◌++◌, map,
 use Rattle.art_epoch.proofs.Waiting.{limbo_mapped}
 use Rattle.art_epoch.specs.Limbo.{IsLimbo}
 use Rattle.art_key.specs.declared.bounds.Bound.{Bound as KeyBound}
-use Rattle.art_look.specs.declared.trails.Trail.{Trail}
+use Rattle.art_look.specs.declared.path_buffers.PathBuffer.{PathBuffer}
 use Rattle.art_seek.proofs.Ends.{HasTold, failures_met, few_made, has_told, range_few, some_made}
 use Rattle.art_seek.proofs.Pinned.{pinned_free, pinned_is}
 use Rattle.art_seek.specs.Seeks.{HasSought, WentIdle, IsOver}
@@ -39,7 +39,7 @@ module _ (u opened before v : View) (seen : opened.seen ≡ u.seen) (own : opene
   sees_all None sees = (seen' ∙ (sees.0 ∙ seen), own' ∙ (sees.1 ∙ own))
   sees_all (Some what) sees = event_all what sees
 
-module _ (z : Sizes) (k : List ℕ) (hi : KeyBound) (u : View) (m : Seek) (t : Trail) where
+module _ (z : Sizes) (k : List ℕ) (hi : KeyBound) (u : View) (m : Seek) (t : PathBuffer) where
   -- ---- a seek that is over
 
   pub over_told : (v : View) (over : IsOver z k hi u m t v) → HasTold over.walking.opened v (told_of m.outcome k hi t m.walk)

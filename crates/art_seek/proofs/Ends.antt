@@ -14,7 +14,7 @@ use Rattle.art_look.specs.Looks as looks
 use Rattle.art_look.specs.Seen.{look_done}
 use Rattle.art_look.specs.declared.looks.Look.{Look}
 use Rattle.art_look.specs.declared.looks.Seen.{Seen as SeenOf}
-use Rattle.art_look.specs.declared.trails.Trail.{Trail}
+use Rattle.art_look.specs.declared.path_buffers.PathBuffer.{PathBuffer}
 use Rattle.art_seek.specs.Walks.{Fits, IsEnd, aim_of, ended_at, of_value, told_of}
 use Rattle.art_seek.specs.declared.walks.Aim.TheVariants as aim
 use Rattle.art_seek.specs.declared.walks.Outcome.{Outcome}
@@ -102,7 +102,7 @@ told_none u v reads = record {
   tells = (ap (λ (r : Rest). r.seen) reads, ap (λ (r : Rest). r.own) reads);
 }
 
-module _ (z : Sizes) (k : List ℕ) (hi : KeyBound) (u : View) (t : Trail) (n : ℕ) (v : View) where
+module _ (z : Sizes) (k : List ℕ) (hi : KeyBound) (u : View) (t : PathBuffer) (n : ℕ) (v : View) where
   key_told : (m : Descent) (left : ℕ) (o : Outcome) → IsEnd (Key m) left o → Fits z k hi u (Key m) t n v → HasTold u v (told_of o k hi t (Key m))
   key_told m left (Found value) ends fits =
       let q = has_ended z k (get_done k) m.depth m.stage (Some value) u v (value_found (descents.ended_at m.stage) value ends) fits.fits in

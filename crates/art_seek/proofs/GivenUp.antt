@@ -6,7 +6,7 @@ use Rattle.art_look.proofs.Stages.{has_seen}
 use Rattle.art_look.specs.Looks as looks
 use Rattle.art_look.specs.Seen.{look_done}
 use Rattle.art_look.specs.declared.looks.Seen.{Seen as SeenOf}
-use Rattle.art_look.specs.declared.trails.Trail.{Trail}
+use Rattle.art_look.specs.declared.path_buffers.PathBuffer.{PathBuffer}
 use Rattle.art_epoch.proofs.Pinned.{pinning_same}
 use Rattle.art_seek.proofs.Closes.{closed_sought, over_free, over_told, sees_all}
 use Rattle.art_seek.proofs.Ends.{key_not_seen, range_seen}
@@ -25,7 +25,7 @@ use Rattle.art_step.specs.declared.deeds.Deed.{Deed}
 use Rattle.art_step.specs.declared.views.Sizes.{Sizes}
 use Rattle.art_step.specs.declared.views.View.{View}
 
-module _ (k : List ℕ) (hi : KeyBound) (t : Trail) where
+module _ (k : List ℕ) (hi : KeyBound) (t : PathBuffer) where
   some_seen : (o : Option SeenOf) → (o ≡ None → ⊥) → (what : Deed) × (option_map look_done o ≡ Some what)
   some_seen (Some seen) some = (look_done seen, refl)
   some_seen None some = absurd (some refl)
@@ -38,7 +38,7 @@ module _ (k : List ℕ) (hi : KeyBound) (t : Trail) where
   is_told (Key m) left Seen ends idle = absurd (key_not_seen m left ends)
   is_told (Range m) left Seen ends idle = some_seen (looks.seen_at k hi t m.stage) (has_seen k hi t m.stage (range_seen m left ends))
 
-module _ (z : Sizes) (k : List ℕ) (hi : KeyBound) (u : View) (m : Seek) (t : Trail) (v : View) where
+module _ (z : Sizes) (k : List ℕ) (hi : KeyBound) (u : View) (m : Seek) (t : PathBuffer) (v : View) where
   pub told_over : IsOver z k hi u m t v → m.outcome ≢ Busy → (what : Deed) × MakesEvent u v what
   told_over over idle =
       let told = is_told k hi t m.walk m.left m.outcome over.ends idle in
@@ -58,7 +58,7 @@ module _ (z : Sizes) (k : List ℕ) (hi : KeyBound) (u : View) (m : Seek) (t : T
 abbrev pub IsUntold : View → View → Type 0
 IsUntold u v = (v.held ≡ []) × (v.own ≡ u.own)
 
-module _ (z : Sizes) (k : List ℕ) (hi : KeyBound) (u : View) (m : Seek) (t : Trail) where
+module _ (z : Sizes) (k : List ℕ) (hi : KeyBound) (u : View) (m : Seek) (t : PathBuffer) where
   busy_over : (v : View) → IsOver z k hi u m t v → m.outcome ≡ Busy → IsUntold u v
   busy_over v over busy =
       let opened = pinned_is z u over.walking.opened over.walking.may over.walking.pins_to in

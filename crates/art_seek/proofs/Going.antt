@@ -1,18 +1,18 @@
 -- A seek that goes on by steps of its own.
 use Rattle.std.proofs.Common.{◌≡◌, ◌∙◌, ℕ, List, refl, sym, subst, arith}
 use Rattle.art_key.specs.declared.bounds.Bound.{Bound as KeyBound}
-use Rattle.art_look.specs.declared.trails.Trail.{Trail}
+use Rattle.art_look.specs.declared.path_buffers.PathBuffer.{PathBuffer}
 use Rattle.art_seek.specs.Seeks.{Fits, GoesTo, IsUnderWay}
 use Rattle.art_seek.specs.declared.seeks.Seek.{Seek}
 use Rattle.art_step.specs.declared.views.Sizes.{Sizes}
 use Rattle.art_step.specs.declared.views.View.{View}
 
-pub goes_none : (z : Sizes) (k : List ℕ) (hi : KeyBound) (m : Seek) (t : Trail) (v : View) → GoesTo z k hi m t v m t v
+pub goes_none : (z : Sizes) (k : List ℕ) (hi : KeyBound) (m : Seek) (t : PathBuffer) (v : View) → GoesTo z k hi m t v m t v
 goes_none z k hi m t v = record { aim = refl; turns = refl; refuses = λ busy. busy; less = omega arith; left = omega arith; fits = λ u fits. fits }
 
 -- and then by more of them, where the sizes are the same
-module _ (z z' : Sizes) (same : z' ≡ z) (k : List ℕ) (hi : KeyBound) (m : Seek) (t : Trail) (v : View) (m' : Seek) (t' : Trail) (v' : View) (first : GoesTo z k hi m t v m' t' v') where
-  pub goes_then : (n : Seek) (s : Trail) (w : View) → GoesTo z' k hi m' t' v' n s w → GoesTo z k hi m t v n s w
+module _ (z z' : Sizes) (same : z' ≡ z) (k : List ℕ) (hi : KeyBound) (m : Seek) (t : PathBuffer) (v : View) (m' : Seek) (t' : PathBuffer) (v' : View) (first : GoesTo z k hi m t v m' t' v') where
+  pub goes_then : (n : Seek) (s : PathBuffer) (w : View) → GoesTo z' k hi m' t' v' n s w → GoesTo z k hi m t v n s w
   goes_then n s w next =
       let then : GoesTo z k hi m' t' v' n s w = subst (λ (y : Sizes). GoesTo y k hi m' t' v' n s w) same next in
       let less = first.less in

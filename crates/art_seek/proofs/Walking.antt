@@ -23,7 +23,7 @@ use Rattle.art_look.specs.declared.looks.Look.{Look}
 use Rattle.art_look.specs.declared.looks.LookStage.{LookStage}
 use Rattle.art_look.specs.declared.looks.LookStage.TheVariants as look_stage
 use Rattle.art_look.specs.declared.looks.Seen.{Seen}
-use Rattle.art_look.specs.declared.trails.Trail.{Trail}
+use Rattle.art_look.specs.declared.path_buffers.PathBuffer.{PathBuffer}
 use Rattle.art_seek.specs.Walks.{Settles, asks, deed_at}
 use Rattle.art_seek.specs.declared.walks.Walk.{Walk}
 use Rattle.art_seek.specs.declared.walks.Walk.TheVariants.{Key, Range}
@@ -54,7 +54,7 @@ module _ (z : Sizes) (k : List ℕ) (u v w : View) (n : ℕ) (asked : Action) (a
             (answers_count z (get_done k (descents.answer_at m.stage)) m.stage asked answer v w is row) before.counts;
       }
 
-  pub range_on : (hi : KeyBound) (m m' : Look) (t t' : Trail) → looks.asks m.stage ≡ Some asked → Answers z (telling (looks.deed_at k hi t m.stage)) asked answer v w
+  pub range_on : (hi : KeyBound) (m m' : Look) (t t' : PathBuffer) → looks.asks m.stage ≡ Some asked → Answers z (telling (looks.deed_at k hi t m.stage)) asked answer v w
       → (goes_on answer ≡ true → looks.most_steps m.depth m.stage < looks.most_steps m'.depth m'.stage) → looks.Fits z k hi m' t' u w
       → looks.least_steps m'.stage ≤ looks.least_steps m.stage + 1
       → LookFits z k hi u v m t n → LookFits z k hi u w m' t' (restarts_after n (goes_on answer))
@@ -71,7 +71,7 @@ module _ (z : Sizes) (k : List ℕ) (u v w : View) (n : ℕ) (asked : Action) (a
 
 -- ---- what it settles, its event says
 
-settling_seen : (lo : List ℕ) (hi : KeyBound) (t : Trail) (s : LookStage) (x : Stamp) → looks.asks s ≡ Some (Settle x)
+settling_seen : (lo : List ℕ) (hi : KeyBound) (t : PathBuffer) (s : LookStage) (x : Stamp) → looks.asks s ≡ Some (Settle x)
     → (seen : Seen) × (looks.seen_at lo hi t s ≡ Some seen) × (looks.deed_at lo hi t s ≡ look_done seen)
 settling_seen lo hi t (look_stage.Decided y r o) x is = (_, refl, refl)
 settling_seen lo hi t look_stage.Start x is = cc
@@ -88,7 +88,7 @@ settling_seen lo hi t (look_stage.Length y l value) x is = cc
 settling_seen lo hi t (look_stage.Bytes a i) x is = cc
 settling_seen lo hi t (look_stage.Ended r o) x is = cc
 
-pub may_settle : (z : Sizes) (k : List ℕ) (hi : KeyBound) (t : Trail) (v : View) (w : Walk) (x : Stamp) → asks w ≡ Some (Settle x) → MaySettle z (Settles w k t) v x
+pub may_settle : (z : Sizes) (k : List ℕ) (hi : KeyBound) (t : PathBuffer) (v : View) (w : Walk) (x : Stamp) → asks w ≡ Some (Settle x) → MaySettle z (Settles w k t) v x
     → check.May z v x (Some (deed_at w k hi t))
 may_settle z k hi t v (Key m) x is may = record { stamp = may.stamp; tells = get_settles z v x k (descents.answer_at m.stage) may.shows }
 may_settle z k hi t v (Range m) x is may =

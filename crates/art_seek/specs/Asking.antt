@@ -18,16 +18,16 @@ use Rattle.art_tree.specs.Heaps.{Cells}
 abbrev pub MaySeek : Sizes → (Cells → Type 0) → View → Action → Type 0
 MaySeek z so v a = MayLook z so v a ⊎ IsAllowed z None v a
 
--- how often it began anew, after this answer
+-- how often it restarted, after this answer
 abbrev pub restarts_told : Answer → ℕ → ℕ
 restarts_told answer n = restarts_after n (goes_on answer)
 
 -- ---- which kind of step it was
 
--- one of the pin or of the close; one of the walk, which goes on; or one after which the walk begins anew
+-- one of the pin or of the close; one of the walk, which goes on; or one after which the walk restarts
 abbrev pub walked : Bool → Bool → Stepped
 walked true true = stepped.Walked
-walked true false = stepped.Anew
+walked true false = stepped.Restart
 walked false on = stepped.Frame
 
 -- a check that settles the answer made the event, if the version word was unchanged
@@ -46,5 +46,5 @@ told_by stepped.Told d = Some d
 told_by s d = None
 
 abbrev pub restarts_by : Stepped → ℕ → ℕ
-restarts_by stepped.Anew n = n + 1
+restarts_by stepped.Restart n = n + 1
 restarts_by s n = n

@@ -7,7 +7,7 @@ use Rattle.art_machine.specs.declared.actions.Action.TheVariants.{StorePin}
 use Rattle.art_key.specs.declared.bounds.Bound.{Bound as KeyBound}
 use Rattle.art_look.specs.declared.looks.Reached.{Reached}
 use Rattle.art_look.specs.declared.looks.Seen.{Seen as SeenOf}
-use Rattle.art_look.specs.declared.trails.Trail.{Trail}
+use Rattle.art_look.specs.declared.path_buffers.PathBuffer.{PathBuffer}
 use Rattle.art_seek.specs.Sought.{HasCounted, HasSpent, IsIdleAgain, UsedTurns}
 use Rattle.art_seek.specs.Walks as walks
 use Rattle.art_seek.specs.Walks.{IsAtStart, IsEnd, aim_of, told_of}
@@ -54,11 +54,11 @@ reached_by (Some Seen) w = walks.reached_at w
 reached_by o w = None
 
 -- what a look has seen, once it has ended so
-abbrev pub seen_by : Option Outcome → Walk → List ℕ → KeyBound → Trail → Option SeenOf
+abbrev pub seen_by : Option Outcome → Walk → List ℕ → KeyBound → PathBuffer → Option SeenOf
 seen_by (Some Seen) w k hi t = walks.seen_at w k hi t
 seen_by o w k hi t = None
 
-abbrev pub seen_at : Seek → List ℕ → KeyBound → Trail → Option SeenOf
+abbrev pub seen_at : Seek → List ℕ → KeyBound → PathBuffer → Option SeenOf
 seen_at m k hi t = seen_by (ended_at m) m.walk k hi t
 
 -- at most so many steps come
@@ -73,7 +73,7 @@ steps_left m = left_at m.stage m
 
 -- ---- what it knows, of a pass that had the view u when it began
 
-pub record IsPinning (z : Sizes) (k : List ℕ) (hi : KeyBound) (u : View) (m : Seek) (t : Trail) (v : View) : Type 0 where
+pub record IsPinning (z : Sizes) (k : List ℕ) (hi : KeyBound) (u : View) (m : Seek) (t : PathBuffer) (v : View) : Type 0 where
   pub may : MayPin u
   pub pinning : pins.Fits z u m.pinning v
   pub going : (a : Action) × (pins.asks m.pinning ≡ Some a)
@@ -83,7 +83,7 @@ pub record IsPinning (z : Sizes) (k : List ℕ) (hi : KeyBound) (u : View) (m : 
   pub few : m.turns ≤ 4294967295
 
 -- the pass was pinned, and the walk has come to the view v; so many turns are left
-pub record IsWalking (z : Sizes) (k : List ℕ) (hi : KeyBound) (u : View) (m : Seek) (t : Trail) (v : View) : Type 0 where
+pub record IsWalking (z : Sizes) (k : List ℕ) (hi : KeyBound) (u : View) (m : Seek) (t : PathBuffer) (v : View) : Type 0 where
   pub opened : View
   pub may : MayPin u
   pub pins_to : Pins z u opened
@@ -93,33 +93,33 @@ pub record IsWalking (z : Sizes) (k : List ℕ) (hi : KeyBound) (u : View) (m : 
   pub few : m.restarts + m.left ≤ 4294967295
 
 -- and the walk goes on, with a turn
-pub record GoesOn (z : Sizes) (k : List ℕ) (hi : KeyBound) (u : View) (m : Seek) (t : Trail) (v : View) : Type 0 where
+pub record GoesOn (z : Sizes) (k : List ℕ) (hi : KeyBound) (u : View) (m : Seek) (t : PathBuffer) (v : View) : Type 0 where
   pub walking : IsWalking z k hi u m t v
   pub going : walks.ended_at m.walk ≡ None
   pub turn : 0 < m.left
 
 -- or is over, and the pass is still pinned
-pub record IsOver (z : Sizes) (k : List ℕ) (hi : KeyBound) (u : View) (m : Seek) (t : Trail) (v : View) : Type 0 where
+pub record IsOver (z : Sizes) (k : List ℕ) (hi : KeyBound) (u : View) (m : Seek) (t : PathBuffer) (v : View) : Type 0 where
   pub walking : IsWalking z k hi u m t v
   pub ends : IsEnd m.walk m.left m.outcome
 
 -- or the pass went idle after that
-pub record WentIdle (z : Sizes) (k : List ℕ) (hi : KeyBound) (u : View) (m : Seek) (t : Trail) (v : View) : Type 0 where
+pub record WentIdle (z : Sizes) (k : List ℕ) (hi : KeyBound) (u : View) (m : Seek) (t : PathBuffer) (v : View) : Type 0 where
   pub before : View
   pub over : IsOver z k hi u m t before
   pub is : v ≡ pin.view_after before 0
 
-abbrev pub StageFits : Sizes → List ℕ → KeyBound → View → SeekStage → Seek → Trail → View → Type 0
+abbrev pub StageFits : Sizes → List ℕ → KeyBound → View → SeekStage → Seek → PathBuffer → View → Type 0
 StageFits z k hi u stage.Pinning m t v = IsPinning z k hi u m t v
 StageFits z k hi u stage.Walking m t v = GoesOn z k hi u m t v
 StageFits z k hi u stage.Closing m t v = IsOver z k hi u m t v
 StageFits z k hi u stage.Ended m t v = WentIdle z k hi u m t v
 
-abbrev pub Fits : Sizes → List ℕ → KeyBound → View → Seek → Trail → View → Type 0
+abbrev pub Fits : Sizes → List ℕ → KeyBound → View → Seek → PathBuffer → View → Type 0
 Fits z k hi u m t v = StageFits z k hi u m.stage m t v
 
 -- some seek has come to this
-abbrev pub IsUnderWay : Sizes → List ℕ → KeyBound → Seek → Trail → View → Type 0
+abbrev pub IsUnderWay : Sizes → List ℕ → KeyBound → Seek → PathBuffer → View → Type 0
 IsUnderWay z k hi m t v = (u : View) × Fits z k hi u m t v
 
 -- ---- a seek that is given up
@@ -135,7 +135,7 @@ abbrev pub WillBeBusy : Seek → Type 0
 WillBeBusy m = busy_at m.stage m
 
 -- by steps of its own a seek m, of a pass with the view v, has come to m', with the view w; it may have made none
-pub record GoesTo (z : Sizes) (k : List ℕ) (hi : KeyBound) (m : Seek) (t : Trail) (v : View) (m' : Seek) (t' : Trail) (w : View) : Type 0 where
+pub record GoesTo (z : Sizes) (k : List ℕ) (hi : KeyBound) (m : Seek) (t : PathBuffer) (v : View) (m' : Seek) (t' : PathBuffer) (w : View) : Type 0 where
   pub aim : aim_of m'.walk ≡ aim_of m.walk
   pub turns : m'.turns ≡ m.turns
   pub refuses : WillBeBusy m → WillBeBusy m'
@@ -156,7 +156,7 @@ turns_used m = turns_used_at m.stage m
 
 -- the pass is idle again, and made the event of the outcome, or none; its steps and its failures are counted; a look that has seen
 -- something used three turns at least
-pub record HasSought (k : List ℕ) (hi : KeyBound) (u : View) (m : Seek) (t : Trail) (o : Outcome) (v : View) : Type 0 where
+pub record HasSought (k : List ℕ) (hi : KeyBound) (u : View) (m : Seek) (t : PathBuffer) (o : Outcome) (v : View) : Type 0 where
   pub idle : IsIdleAgain u v
   pub tells : SeesEvent u v (told_of o k hi t m.walk)
   pub counted : HasCounted u m.turns m.restarts v

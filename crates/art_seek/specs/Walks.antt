@@ -12,7 +12,7 @@ use Rattle.art_look.specs.Looks as looks
 use Rattle.art_look.specs.Seen.{look_done}
 use Rattle.art_look.specs.declared.looks.Reached.{Reached}
 use Rattle.art_look.specs.declared.looks.Seen.{Seen as SeenOf}
-use Rattle.art_look.specs.declared.trails.Trail.{Trail}
+use Rattle.art_look.specs.declared.path_buffers.PathBuffer.{PathBuffer}
 use Rattle.art_seek.specs.declared.walks.Aim.{Aim}
 use Rattle.art_seek.specs.declared.walks.Aim.TheVariants as aim
 use Rattle.art_seek.specs.declared.walks.Outcome.{Outcome}
@@ -51,34 +51,34 @@ reached_at (Key m) = None
 reached_at (Range m) = looks.reached_at m.stage
 
 -- what a look has seen, where it has come to that
-abbrev pub seen_at : Walk → List ℕ → KeyBound → Trail → Option SeenOf
+abbrev pub seen_at : Walk → List ℕ → KeyBound → PathBuffer → Option SeenOf
 seen_at (Key m) k hi t = None
 seen_at (Range m) k hi t = looks.seen_at k hi t m.stage
 
 -- what it settles there, and the event that it makes
-abbrev pub Settles : Walk → List ℕ → Trail → Cells → Type 0
+abbrev pub Settles : Walk → List ℕ → PathBuffer → Cells → Type 0
 Settles (Key m) k t s = HasValue s k (descents.answer_at m.stage)
 Settles (Range m) k t s = looks.Settles k t m.stage s
 
-abbrev pub deed_at : Walk → List ℕ → KeyBound → Trail → Deed
+abbrev pub deed_at : Walk → List ℕ → KeyBound → PathBuffer → Deed
 deed_at (Key m) k hi t = get_done k (descents.answer_at m.stage)
 deed_at (Range m) k hi t = looks.deed_at k hi t m.stage
 
--- ---- what it knows, of a pass that began with the view u, where it began anew so often
+-- ---- what it knows, of a pass that began with the view u, where it restarted so often
 
-abbrev pub Fits : Sizes → List ℕ → KeyBound → View → Walk → Trail → ℕ → View → Type 0
+abbrev pub Fits : Sizes → List ℕ → KeyBound → View → Walk → PathBuffer → ℕ → View → Type 0
 Fits z k hi u (Key m) t n v = GetFits z k u v m n
 Fits z k hi u (Range m) t n v = LookFits z k hi u v m t n
 
--- a walk that began with the view u goes on, so many of its turns are left, and so often it began anew
-pub record HasTurns (z : Sizes) (k : List ℕ) (hi : KeyBound) (turns : ℕ) (u : View) (w : Walk) (t : Trail) (c : Tally) (v : View) : Type 0 where
+-- a walk that began with the view u goes on, so many of its turns are left, and so often it restarted
+pub record HasTurns (z : Sizes) (k : List ℕ) (hi : KeyBound) (turns : ℕ) (u : View) (w : Walk) (t : PathBuffer) (c : Tally) (v : View) : Type 0 where
   pub going : ended_at w ≡ None
   pub walk : Fits z k hi u w t c.restarts v
   pub made : v.steps + c.left ≡ u.steps + turns
   pub few : c.restarts + c.left ≤ 4294967295
 
 -- it stands at its beginning
-pub record IsAtStart (z : Sizes) (k : List ℕ) (hi : KeyBound) (w : Walk) (t : Trail) : Type 0 where
+pub record IsAtStart (z : Sizes) (k : List ℕ) (hi : KeyBound) (w : Walk) (t : PathBuffer) : Type 0 where
   pub going : ended_at w ≡ None
   pub fits : (u : View) → IsReading u u → Fits z k hi u w t 0 u
 
@@ -90,7 +90,7 @@ IsEnd w left Busy = (ended_at w ≡ None) × (left ≡ 0)
 IsEnd w left o = ended_at w ≡ Some o
 
 -- its event, if it made one
-abbrev pub told_of : Outcome → List ℕ → KeyBound → Trail → Walk → Option Deed
+abbrev pub told_of : Outcome → List ℕ → KeyBound → PathBuffer → Walk → Option Deed
 told_of (Found value) k hi t w = Some (get_done k (Some value))
 told_of Absent k hi t w = Some (get_done k None)
 told_of Seen k hi t w = option_map look_done (seen_at w k hi t)

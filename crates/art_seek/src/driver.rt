@@ -14,7 +14,7 @@ ghost use Rattle.art_step.specs.declared.views.View.{View};
 use crate::Seek;
 use crate::walks::Walk;
 use art_key::Bound;
-use art_look::Trail;
+use art_look::PathBuffer;
 use art_machine::{Action, Answer, Effects, perform};
 use art_step::EpochSteps;
 
@@ -25,8 +25,8 @@ pub enum Stepped {
     Frame,
     /// One of the walk, which goes on.
     Walked,
-    /// One of the walk, which begins anew: a version word was locked, obsolete or changed.
-    Anew,
+    /// One of the walk, which restarts: a version word was locked, obsolete or changed.
+    Restart,
     /// The check of the walk that settled the answer, and made the event.
     Told,
 }
@@ -47,19 +47,19 @@ pub(crate) fn make<S: EpochSteps>(
     walk: &Walk,
     key: &[u8],
     hi: &Bound,
-    trail: &Trail,
+    path_buffer: &PathBuffer,
 ) -> Answer
     requires short { length key.now ≤ 64 }
     requires admitted { aim_of walk.now ≡ aims.Key → S.admits steps.old key.now }
     requires asked { IsToSettle action → walk_asks walk.now ≡ Some action }
-    requires allowed { MaySeek (S.sizes steps.old) (Settles walk.now key.now trail.now) (S.view steps.old) action }
+    requires allowed { MaySeek (S.sizes steps.old) (Settles walk.now key.now path_buffer.now) (S.view steps.old) action }
     ensures only { S.only steps.old steps.new }
-    ensures row { Answers (S.sizes steps.old) (telling (deed_at walk.now key.now hi.now trail.now)) action result
+    ensures row { Answers (S.sizes steps.old) (telling (deed_at walk.now key.now hi.now path_buffer.now)) action result
         (S.view steps.old) (S.view steps.new) }
 {
     match action {
         Action::Settle { .. } => {
-            let effects = Effects::telling(walk.deed(key, hi, trail));
+            let effects = Effects::telling(walk.deed(key, hi, path_buffer));
             perform(steps, action, Some(&effects))
         }
         _ => perform(steps, action, None),
@@ -82,7 +82,7 @@ fn walked(look: bool, on: bool) -> Stepped
 {
     match (look, on) {
         (true, true) => Stepped::Walked,
-        (true, false) => Stepped::Anew,
+        (true, false) => Stepped::Restart,
         (false, _) => Stepped::Frame,
     }
 }
@@ -93,34 +93,34 @@ pub fn step<S: EpochSteps>(
     seek: &mut Seek,
     key: &[u8],
     hi: &Bound,
-    trail: &mut Trail,
+    path_buffer: &mut PathBuffer,
 ) -> Made
     requires short { length key.now ≤ 64 }
     requires admitted { aim_of seek.old.walk ≡ aims.Key → S.admits steps.old key.now }
     requires going { ended_at seek.old ≡ None }
-    requires fits { (u : View) × Fits (S.sizes steps.old) key.now hi.now u seek.old trail.old (S.view steps.old) }
+    requires fits { (u : View) × Fits (S.sizes steps.old) key.now hi.now u seek.old path_buffer.old (S.view steps.old) }
     ensures only { S.only steps.old steps.new }
     ensures aim { aim_of seek.new.walk ≡ aim_of seek.old.walk }
     ensures turns { seek.new.turns ≡ seek.old.turns }
     ensures one { (S.view steps.new).steps ≡ (S.view steps.old).steps + 1 }
     ensures asked { asks seek.old ≡ Some result.action }
-    ensures allowed { MaySeek (S.sizes steps.old) (Settles seek.old.walk key.now trail.old) (S.view steps.old) result.action }
-    ensures row { (answer : AnswerOf) × Answers (S.sizes steps.old) (telling (deed_at seek.old.walk key.now hi.now trail.old)) result.action answer
+    ensures allowed { MaySeek (S.sizes steps.old) (Settles seek.old.walk key.now path_buffer.old) (S.view steps.old) result.action }
+    ensures row { (answer : AnswerOf) × Answers (S.sizes steps.old) (telling (deed_at seek.old.walk key.now hi.now path_buffer.old)) result.action answer
         (S.view steps.old) (S.view steps.new) × (result.stepped ≡ stepped_by result.action answer) }
     ensures refuses { WillBeBusy seek.old → WillBeBusy seek.new }
     ensures counted { is_counted result.stepped ≡ is_walking seek.old.stage }
     ensures restarts { seek.new.restarts ≡ restarts_by result.stepped seek.old.restarts }
     ensures tells { SeesEvent (S.view steps.old) (S.view steps.new)
-        (told_by result.stepped (deed_at seek.old.walk key.now hi.now trail.old)) }
+        (told_by result.stepped (deed_at seek.old.walk key.now hi.now path_buffer.old)) }
     ensures left { steps_left seek.new < steps_left seek.old }
-    ensures fits { (u : View) → Fits (S.sizes steps.old) key.now hi.now u seek.old trail.old (S.view steps.old) →
-        Fits (S.sizes steps.old) key.now hi.now u seek.new trail.new (S.view steps.new) }
+    ensures fits { (u : View) → Fits (S.sizes steps.old) key.now hi.now u seek.old path_buffer.old (S.view steps.old) →
+        Fits (S.sizes steps.old) key.now hi.now u seek.new path_buffer.new (S.view steps.new) }
 {
     let Some(action) = seek.next() else {
         unreachable!()
     };
-    let answer = make(steps, action, seek.walk(), key, hi, trail);
-    seek.told(key, trail, answer);
+    let answer = make(steps, action, seek.walk(), key, hi, path_buffer);
+    seek.told(key, path_buffer, answer);
     Made {
         action,
         stepped: kind_of(action, answer),
@@ -133,24 +133,24 @@ pub fn finish<S: EpochSteps>(
     seek: &mut Seek,
     key: &[u8],
     hi: &Bound,
-    trail: &mut Trail,
+    path_buffer: &mut PathBuffer,
 )
     requires short { length key.now ≤ 64 }
     requires admitted { aim_of seek.old.walk ≡ aims.Key → S.admits steps.old key.now }
-    requires fits { (u : View) × Fits (S.sizes steps.old) key.now hi.now u seek.old trail.old (S.view steps.old) }
+    requires fits { (u : View) × Fits (S.sizes steps.old) key.now hi.now u seek.old path_buffer.old (S.view steps.old) }
     ensures only { S.only steps.old steps.new }
     ensures aim { aim_of seek.new.walk ≡ aim_of seek.old.walk }
     ensures turns { seek.new.turns ≡ seek.old.turns }
     ensures ended { (o : OutcomeOf) × (ended_at seek.new ≡ Some o) }
     ensures refuses { WillBeBusy seek.old → WillBeBusy seek.new }
     ensures left { (S.view steps.new).steps + steps_left seek.new ≤ (S.view steps.old).steps + steps_left seek.old }
-    ensures fits { (u : View) → Fits (S.sizes steps.old) key.now hi.now u seek.old trail.old (S.view steps.old) →
-        Fits (S.sizes steps.old) key.now hi.now u seek.new trail.new (S.view steps.new) }
+    ensures fits { (u : View) → Fits (S.sizes steps.old) key.now hi.now u seek.old path_buffer.old (S.view steps.old) →
+        Fits (S.sizes steps.old) key.now hi.now u seek.new path_buffer.new (S.view steps.new) }
 {
     loop {
-        if !seek.hurry(steps, key, trail) {
+        if !seek.hurry(steps, key, path_buffer) {
             return;
         }
-        seek.walk_by(steps, key, hi, trail);
+        seek.walk_by(steps, key, hi, path_buffer);
     }
 }

@@ -6,7 +6,7 @@
 //! Pinning ── the epoch is noted, and stored in the word of the pass
 //!    ▼
 //! Walking ── a descent by the key (`art_find`) or a look of the range (`art_look`), from the anchor down; where a version word was
-//!    │       locked, obsolete or changed, it begins anew, under the same pin
+//!    │       locked, obsolete or changed, it restarts, under the same pin
 //!    ▼
 //! Closing ── 0 is stored: the pass is idle
 //! ```
@@ -17,13 +17,13 @@
 //! # What stands beside it
 //!
 //! `Seek` is a value of scalars with `next` and `told`. Who runs it keeps what is large: the key of a get, or both ends of a range,
-//! and the `Trail`, which has what a look has read. They are handed in at each step and not copied, but for the key of a deed, as
+//! and the `PathBuffer`, which has what a look has read. They are handed in at each step and not copied, but for the key of a deed, as
 //! that is told, and for what a look has seen.
 //!
 //! # One step at a time
 //!
 //! `step` says what was asked, and which kind of step it made (`Stepped`): one of the pin or of the close, one of the walk that went on
-//! or began anew, or the one that made the event. So a caller learns from its result alone what the view of the pass saw at that step.
+//! or restarted, or the one that made the event. So a caller learns from its result alone what the view of the pass saw at that step.
 //!
 //! A seek that is no longer wanted may be given up while nothing is told (`give_up`): the turns that were used count as all there were.
 //!

@@ -7,7 +7,7 @@ ghost use Rattle.art_find.specs.Driven.{restarts_after};
 ghost use Rattle.art_machine.specs.declared.actions.Action.{Action as ActionOf};
 ghost use Rattle.art_key.specs.declared.bounds.Bound.{Bound as KeyBound};
 ghost use Rattle.art_look.specs.Driven.{IsSeen};
-ghost use Rattle.art_look.specs.declared.trails.Trail.{Trail as Trailed};
+ghost use Rattle.art_look.specs.declared.path_buffers.PathBuffer.{PathBuffer as PathBufferOf};
 ghost use Rattle.art_seek.specs.Asking.{restarts_told};
 ghost use Rattle.art_seek.specs.Seeks.{Fits, HasSought, IsPinning, IsWalking, WillBeBusy, asks, ended_at, left_at, reached_by, seen_at, steps_left, turns_used};
 ghost use Rattle.art_seek.specs.Walks as walks;
@@ -23,7 +23,7 @@ use crate::walks::Walk;
 use crate::{Aim, Outcome};
 use art_epoch::Pinning;
 use art_key::Bound;
-use art_look::{Reached, Seen, Trail};
+use art_look::{PathBuffer, Reached, Seen};
 use art_machine::{Action, Answer};
 
 /// Where a seek stands between two of its steps.
@@ -38,7 +38,7 @@ pub enum SeekStage {
     Ended,
 }
 
-/// A get of a key, or a look of a range. What it looks for and the trail of a look stand beside it.
+/// A get of a key, or a look of a range. What it looks for and the path buffer of a look stand beside it.
 #[derive(Clone, Copy)]
 pub struct Seek {
     pub(crate) stage: SeekStage,
@@ -61,7 +61,7 @@ impl Seek {
         ensures turns { (result.turns ≡ turns) × (result.restarts ≡ 0) }
         ensures going { ended_at result ≡ None }
         ensures left { steps_left result ≡ turns + 3 }
-        ensures fits { (z : Sizes) (k : List ℕ) (hi : KeyBound) (t : Trailed) (u : View) → MayPin u → Fits z k hi u result t u }
+        ensures fits { (z : Sizes) (k : List ℕ) (hi : KeyBound) (t : PathBufferOf) (u : View) → MayPin u → Fits z k hi u result t u }
     {
         Seek {
             stage: SeekStage::Pinning,
@@ -77,9 +77,9 @@ impl Seek {
     /// The next step, or none where it has ended.
     pub fn next(&self) -> Option<Action>
         ensures asks { result ≡ asks self.now }
-        ensures allowed { (z : Sizes) (k : List ℕ) (hi : KeyBound) (u v : View) (t : Trailed) → Fits z k hi u self.now t v →
+        ensures allowed { (z : Sizes) (k : List ℕ) (hi : KeyBound) (u v : View) (t : PathBufferOf) → Fits z k hi u self.now t v →
             IfSome result (MaySeek z (Settles self.now.walk k t) v) }
-        ensures going { (z : Sizes) (k : List ℕ) (hi : KeyBound) (u v : View) (t : Trailed) → Fits z k hi u self.now t v →
+        ensures going { (z : Sizes) (k : List ℕ) (hi : KeyBound) (u v : View) (t : PathBufferOf) → Fits z k hi u self.now t v →
             ended_at self.now ≡ None → (a : ActionOf) × (result ≡ Some a) }
     {
         match self.stage {
@@ -91,23 +91,23 @@ impl Seek {
     }
 
     /// The step that it asked for was made, with this answer. The key is the one that is looked for, or the lower end of the range.
-    pub fn told(&mut self, key: &[u8], trail: &mut Trail, answer: Answer)
+    pub fn told(&mut self, key: &[u8], path_buffer: &mut PathBuffer, answer: Answer)
         requires short { length key.now ≤ 64 }
         requires told { (z : Sizes) × (hi : KeyBound) × (u : View) × (v : View) × (w : View) × (asked : ActionOf) ×
-            Fits z key.now hi u self.old trail.old v × (asks self.old ≡ Some asked) ×
-            Answers z (telling (deed_at self.old.walk key.now hi trail.old)) asked answer v w }
+            Fits z key.now hi u self.old path_buffer.old v × (asks self.old ≡ Some asked) ×
+            Answers z (telling (deed_at self.old.walk key.now hi path_buffer.old)) asked answer v w }
         ensures aim { aim_of self.new.walk ≡ aim_of self.old.walk }
         ensures turns { self.new.turns ≡ self.old.turns }
         ensures restarts { self.new.restarts ≡ restarts_told answer self.old.restarts }
         ensures refuses { WillBeBusy self.old → WillBeBusy self.new }
         ensures left { steps_left self.new < steps_left self.old }
         ensures fits { (z : Sizes) (hi : KeyBound) (u v w : View) (asked : ActionOf) →
-            Fits z key.now hi u self.old trail.old v → asks self.old ≡ Some asked →
-            Answers z (telling (deed_at self.old.walk key.now hi trail.old)) asked answer v w → Fits z key.now hi u self.new trail.new w }
+            Fits z key.now hi u self.old path_buffer.old v → asks self.old ≡ Some asked →
+            Answers z (telling (deed_at self.old.walk key.now hi path_buffer.old)) asked answer v w → Fits z key.now hi u self.new path_buffer.new w }
     {
         match self.stage {
             SeekStage::Pinning => self.pin_told(answer),
-            SeekStage::Walking => self.walk_told(key, trail, answer),
+            SeekStage::Walking => self.walk_told(key, path_buffer, answer),
             SeekStage::Closing => self.stage = SeekStage::Ended,
             SeekStage::Ended => {}
         }
@@ -116,7 +116,7 @@ impl Seek {
     /// How it ended, if it has.
     pub fn ended(&self) -> Option<Outcome>
         ensures at { result ≡ ended_at self.now }
-        ensures sought { IfSome result (λ o. (z : Sizes) (k : List ℕ) (hi : KeyBound) (u v : View) (t : Trailed) →
+        ensures sought { IfSome result (λ o. (z : Sizes) (k : List ℕ) (hi : KeyBound) (u v : View) (t : PathBufferOf) →
             length k ≤ 64 → Fits z k hi u self.now t v → HasSought k hi u self.now t o v) }
         ensures refused { IfSome result (λ o. WillBeBusy self.now → o ≡ busy) }
     {
@@ -126,7 +126,7 @@ impl Seek {
         }
     }
 
-    /// How often it began anew.
+    /// How often it restarted.
     pub fn restarts(&self) -> u64
         ensures { result ≡ self.now.restarts }
     {
@@ -147,10 +147,10 @@ impl Seek {
         ensures turns { result ≡ true → self.new.turns ≡ turns_used self.old }
         ensures left { result ≡ true → steps_left self.new ≤ steps_left self.old }
         ensures refuses { result ≡ true → WillBeBusy self.new }
-        ensures fits { (z : Sizes) (k : List ℕ) (hi : KeyBound) (u v : View) (t : Trailed) → Fits z k hi u self.old t v →
+        ensures fits { (z : Sizes) (k : List ℕ) (hi : KeyBound) (u v : View) (t : PathBufferOf) → Fits z k hi u self.old t v →
             Fits z k hi u self.new t v }
         ensures kept { result ≡ false → self.new ≡ self.old }
-        ensures why { result ≡ false → (z : Sizes) (k : List ℕ) (hi : KeyBound) (u v : View) (t : Trailed) → length k ≤ 64 →
+        ensures why { result ≡ false → (z : Sizes) (k : List ℕ) (hi : KeyBound) (u v : View) (t : PathBufferOf) → length k ≤ 64 →
             Fits z k hi u self.old t v → (what : DeedOf) × MakesEvent u v what }
     {
         match self.stage {
@@ -170,14 +170,14 @@ impl Seek {
     }
 
     /// What a look has seen, once it has ended as `Seen`.
-    pub fn seen(&self, lo: &[u8], hi: &Bound, trail: &Trail) -> Option<Seen>
+    pub fn seen(&self, lo: &[u8], hi: &Bound, path_buffer: &PathBuffer) -> Option<Seen>
         requires { length lo.now ≤ 64 }
-        ensures at { result ≡ seen_at self.now lo.now hi.now trail.now }
-        ensures stood { IfSome result (λ seen. (z : Sizes) (u v : View) → Fits z lo.now hi.now u self.now trail.now v →
+        ensures at { result ≡ seen_at self.now lo.now hi.now path_buffer.now }
+        ensures stood { IfSome result (λ seen. (z : Sizes) (u v : View) → Fits z lo.now hi.now u self.now path_buffer.now v →
             IsSeen z lo.now hi.now seen) }
     {
         let reached = self.reached()?;
-        Some(reached.seen(lo, hi, trail))
+        Some(reached.seen(lo, hi, path_buffer))
     }
 
     /// How far a look has seen, once it has ended as `Seen`.
@@ -209,7 +209,7 @@ impl Seek {
         ensures restarts { self.new.restarts ≡ self.old.restarts }
         ensures refuses { self.old.left ≡ 0 → WillBeBusy self.new }
         ensures left { steps_left self.new < left_at stages.Pinning self.old }
-        ensures fits { (z : Sizes) (k : List ℕ) (hi : KeyBound) (u v w : View) (t : Trailed) (asked : ActionOf) →
+        ensures fits { (z : Sizes) (k : List ℕ) (hi : KeyBound) (u v w : View) (t : PathBufferOf) (asked : ActionOf) →
             IsPinning z k hi u self.old t v → pins.asks self.old.pinning ≡ Some asked → Answers z None asked answer v w →
             Fits z k hi u self.new t w }
     {
@@ -228,7 +228,7 @@ impl Seek {
         ensures restarts { self.new.restarts ≡ self.old.restarts }
         ensures refuses { self.old.left ≡ 0 → WillBeBusy self.new }
         ensures left { steps_left self.new ≤ self.old.left + 1 }
-        ensures fits { (z : Sizes) (k : List ℕ) (hi : KeyBound) (u v : View) (t : Trailed) → IsWalking z k hi u self.old t v →
+        ensures fits { (z : Sizes) (k : List ℕ) (hi : KeyBound) (u v : View) (t : PathBufferOf) → IsWalking z k hi u self.old t v →
             walks.ended_at self.old.walk ≡ None → Fits z k hi u self.new t v }
     {
         if self.left == 0 {
@@ -246,7 +246,7 @@ impl Seek {
         ensures turns { self.new.turns ≡ self.old.turns }
         ensures restarts { self.new.restarts ≡ self.old.restarts }
         ensures left { steps_left self.new ≡ 1 }
-        ensures fits { (z : Sizes) (k : List ℕ) (hi : KeyBound) (u v : View) (t : Trailed) → IsWalking z k hi u self.old t v →
+        ensures fits { (z : Sizes) (k : List ℕ) (hi : KeyBound) (u v : View) (t : PathBufferOf) → IsWalking z k hi u self.old t v →
             IsEnd self.old.walk self.old.left outcome → Fits z k hi u self.new t v }
     {
         self.outcome = outcome;
@@ -255,23 +255,23 @@ impl Seek {
 
     /// A step of the walk was made: it is counted, and so is a restart.
     #[inline(always)]
-    pub(crate) fn walk_told(&mut self, key: &[u8], trail: &mut Trail, answer: Answer)
+    pub(crate) fn walk_told(&mut self, key: &[u8], path_buffer: &mut PathBuffer, answer: Answer)
         requires short { length key.now ≤ 64 }
         requires turn { 0 < self.old.left }
         requires few { self.old.restarts + self.old.left ≤ 4294967295 }
         requires told { (z : Sizes) × (hi : KeyBound) × (u : View) × (v : View) × (w : View) × (asked : ActionOf) ×
-            IsWalking z key.now hi u self.old trail.old v × (walks.asks self.old.walk ≡ Some asked) ×
-            Answers z (telling (deed_at self.old.walk key.now hi trail.old)) asked answer v w }
+            IsWalking z key.now hi u self.old path_buffer.old v × (walks.asks self.old.walk ≡ Some asked) ×
+            Answers z (telling (deed_at self.old.walk key.now hi path_buffer.old)) asked answer v w }
         ensures aim { aim_of self.new.walk ≡ aim_of self.old.walk }
         ensures turns { self.new.turns ≡ self.old.turns }
         ensures restarts { self.new.restarts ≡ restarts_after self.old.restarts (goes_on answer) }
         ensures left { steps_left self.new < left_at stages.Walking self.old }
         ensures fits { (z : Sizes) (hi : KeyBound) (u v w : View) (asked : ActionOf) →
-            IsWalking z key.now hi u self.old trail.old v → walks.asks self.old.walk ≡ Some asked →
-            Answers z (telling (deed_at self.old.walk key.now hi trail.old)) asked answer v w → Fits z key.now hi u self.new trail.new w }
+            IsWalking z key.now hi u self.old path_buffer.old v → walks.asks self.old.walk ≡ Some asked →
+            Answers z (telling (deed_at self.old.walk key.now hi path_buffer.old)) asked answer v w → Fits z key.now hi u self.new path_buffer.new w }
     {
         self.left -= 1;
-        if !self.walk.told(key, trail, answer) {
+        if !self.walk.told(key, path_buffer, answer) {
             self.restarts += 1;
         }
         match self.walk.ended() {

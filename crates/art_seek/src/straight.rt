@@ -4,7 +4,7 @@
 //! is left to be made one by one is the check that settles the answer, and the last turn.
 ghost use Rattle.std.specs.Prelude.{◌≡◌, ◌≢◌, ◌<◌, ◌≤◌, ℕ, List, length, None, Some, true, false};
 ghost use Rattle.art_key.specs.declared.bounds.Bound.{Bound as KeyBound};
-ghost use Rattle.art_look.specs.declared.trails.Trail.{Trail as Trailed};
+ghost use Rattle.art_look.specs.declared.path_buffers.PathBuffer.{PathBuffer as PathBufferOf};
 ghost use Rattle.art_seek.specs.Seeks.{GoesTo, IsUnderWay, ended_at, steps_left};
 ghost use Rattle.art_seek.specs.Walks.{aim_of};
 ghost use Rattle.art_seek.specs.declared.seeks.SeekStage.TheVariants as stages;
@@ -16,7 +16,7 @@ use crate::{Seek, SeekStage};
 use art_epoch::{Pinning, unpin};
 use art_find::Tally;
 use art_key::Bound;
-use art_look::Trail;
+use art_look::PathBuffer;
 use art_machine::Answer;
 use art_step::{EpochSteps, Steps};
 
@@ -28,20 +28,20 @@ impl Seek {
         &mut self,
         steps: &mut S,
         key: &[u8],
-        trail: &mut Trail,
+        path_buffer: &mut PathBuffer,
     ) -> bool
         requires short { length key.now ≤ 64 }
-        requires fits { (hi : KeyBound) × IsUnderWay (S.sizes steps.old) key.now hi self.old trail.old (S.view steps.old) }
+        requires fits { (hi : KeyBound) × IsUnderWay (S.sizes steps.old) key.now hi self.old path_buffer.old (S.view steps.old) }
         ensures only { S.only steps.old steps.new }
         ensures walks { result ≡ true → self.new.stage ≡ stages.Walking }
         ensures ended { result ≡ false → (o : OutcomeOf) × (ended_at self.new ≡ Some o) }
         ensures goes { (hi : KeyBound) →
-            GoesTo (S.sizes steps.old) key.now hi self.old trail.old (S.view steps.old) self.new trail.new (S.view steps.new) }
+            GoesTo (S.sizes steps.old) key.now hi self.old path_buffer.old (S.view steps.old) self.new path_buffer.new (S.view steps.new) }
     {
         self.pin(steps);
         match self.stage {
             SeekStage::Walking => {
-                self.walk_on(steps, key, trail);
+                self.walk_on(steps, key, path_buffer);
                 true
             }
             SeekStage::Closing => {
@@ -56,10 +56,10 @@ impl Seek {
     /// Makes the steps that are left of the pin.
     #[inline(always)]
     fn pin<S: EpochSteps>(&mut self, steps: &mut S)
-        requires fits { (k : List ℕ) × (hi : KeyBound) × (t : Trailed) × IsUnderWay (S.sizes steps.old) k hi self.old t (S.view steps.old) }
+        requires fits { (k : List ℕ) × (hi : KeyBound) × (t : PathBufferOf) × IsUnderWay (S.sizes steps.old) k hi self.old t (S.view steps.old) }
         ensures only { S.only steps.old steps.new }
         ensures pinned { self.new.stage ≢ stages.Pinning }
-        ensures goes { (k : List ℕ) (hi : KeyBound) (t : Trailed) →
+        ensures goes { (k : List ℕ) (hi : KeyBound) (t : PathBufferOf) →
             GoesTo (S.sizes steps.old) k hi self.old t (S.view steps.old) self.new t (S.view steps.new) }
     {
         while matches!(self.stage, SeekStage::Pinning) {
@@ -71,10 +71,10 @@ impl Seek {
     #[inline(always)]
     fn pin_on<S: EpochSteps>(&mut self, steps: &mut S)
         requires stage { self.old.stage ≡ stages.Pinning }
-        requires fits { (k : List ℕ) × (hi : KeyBound) × (t : Trailed) × IsUnderWay (S.sizes steps.old) k hi self.old t (S.view steps.old) }
+        requires fits { (k : List ℕ) × (hi : KeyBound) × (t : PathBufferOf) × IsUnderWay (S.sizes steps.old) k hi self.old t (S.view steps.old) }
         ensures only { S.only steps.old steps.new }
         ensures less { steps_left self.new < steps_left self.old }
-        ensures goes { (k : List ℕ) (hi : KeyBound) (t : Trailed) →
+        ensures goes { (k : List ℕ) (hi : KeyBound) (t : PathBufferOf) →
             GoesTo (S.sizes steps.old) k hi self.old t (S.view steps.old) self.new t (S.view steps.new) }
     {
         match self.pinning {
@@ -92,20 +92,20 @@ impl Seek {
 
     /// Makes the steps of its walk one after another, as far as nothing stops it.
     #[inline(always)]
-    fn walk_on<S: Steps>(&mut self, steps: &mut S, key: &[u8], trail: &mut Trail)
+    fn walk_on<S: Steps>(&mut self, steps: &mut S, key: &[u8], path_buffer: &mut PathBuffer)
         requires short { length key.now ≤ 64 }
         requires stage { self.old.stage ≡ stages.Walking }
-        requires fits { (hi : KeyBound) × IsUnderWay (S.sizes steps.old) key.now hi self.old trail.old (S.view steps.old) }
+        requires fits { (hi : KeyBound) × IsUnderWay (S.sizes steps.old) key.now hi self.old path_buffer.old (S.view steps.old) }
         ensures only { S.only steps.old steps.new }
         ensures walks { self.new.stage ≡ stages.Walking }
         ensures goes { (hi : KeyBound) →
-            GoesTo (S.sizes steps.old) key.now hi self.old trail.old (S.view steps.old) self.new trail.new (S.view steps.new) }
+            GoesTo (S.sizes steps.old) key.now hi self.old path_buffer.old (S.view steps.old) self.new path_buffer.new (S.view steps.new) }
     {
         let mut tally = Tally {
             left: self.left,
             restarts: self.restarts as u32,
         };
-        self.walk.hurry(steps, &mut tally, key, trail);
+        self.walk.hurry(steps, &mut tally, key, path_buffer);
         self.left = tally.left;
         self.restarts = u64::from(tally.restarts);
     }
@@ -117,31 +117,31 @@ impl Seek {
         steps: &mut S,
         key: &[u8],
         hi: &Bound,
-        trail: &mut Trail,
+        path_buffer: &mut PathBuffer,
     )
         requires short { length key.now ≤ 64 }
         requires admitted { aim_of self.old.walk ≡ aims.Key → S.admits steps.old key.now }
         requires stage { self.old.stage ≡ stages.Walking }
-        requires fits { IsUnderWay (S.sizes steps.old) key.now hi.now self.old trail.old (S.view steps.old) }
+        requires fits { IsUnderWay (S.sizes steps.old) key.now hi.now self.old path_buffer.old (S.view steps.old) }
         ensures only { S.only steps.old steps.new }
         ensures less { steps_left self.new < steps_left self.old }
-        ensures goes { GoesTo (S.sizes steps.old) key.now hi.now self.old trail.old (S.view steps.old) self.new trail.new (S.view steps.new) }
+        ensures goes { GoesTo (S.sizes steps.old) key.now hi.now self.old path_buffer.old (S.view steps.old) self.new path_buffer.new (S.view steps.new) }
     {
         let Some(action) = self.walk.next() else {
             unreachable!()
         };
-        let answer = make(steps, action, &self.walk, key, hi, trail);
-        self.walk_told(key, trail, answer);
+        let answer = make(steps, action, &self.walk, key, hi, path_buffer);
+        self.walk_told(key, path_buffer, answer);
     }
 
     /// The pass goes idle.
     #[inline(always)]
     fn go_idle<S: EpochSteps>(&mut self, steps: &mut S)
         requires stage { self.old.stage ≡ stages.Closing }
-        requires fits { (k : List ℕ) × (hi : KeyBound) × (t : Trailed) × IsUnderWay (S.sizes steps.old) k hi self.old t (S.view steps.old) }
+        requires fits { (k : List ℕ) × (hi : KeyBound) × (t : PathBufferOf) × IsUnderWay (S.sizes steps.old) k hi self.old t (S.view steps.old) }
         ensures only { S.only steps.old steps.new }
         ensures ended { (o : OutcomeOf) × (ended_at self.new ≡ Some o) }
-        ensures goes { (k : List ℕ) (hi : KeyBound) (t : Trailed) →
+        ensures goes { (k : List ℕ) (hi : KeyBound) (t : PathBufferOf) →
             GoesTo (S.sizes steps.old) k hi self.old t (S.view steps.old) self.new t (S.view steps.new) }
     {
         unpin(steps);

@@ -7,7 +7,7 @@ ghost use Rattle.art_machine.specs.declared.actions.Action.{Action as ActionOf};
 ghost use Rattle.art_machine.specs.declared.actions.Action.TheVariants.{Settle as settle_asked};
 ghost use Rattle.art_key.specs.declared.bounds.Bound.{Bound as KeyBound};
 ghost use Rattle.art_look.specs.Looks as looks;
-ghost use Rattle.art_look.specs.declared.trails.Trail.{Trail as Trailed};
+ghost use Rattle.art_look.specs.declared.path_buffers.PathBuffer.{PathBuffer as PathBufferOf};
 ghost use Rattle.art_seek.specs.Walks.{Fits, HasTurns, IsAtStart, Settles, aim_of, asks, deed_at, ended_at, of_value, reached_at};
 ghost use Rattle.art_step.specs.declared.views.Sizes.{Sizes};
 ghost use Rattle.art_step.specs.declared.views.Stamp.{Stamp};
@@ -15,7 +15,7 @@ ghost use Rattle.art_step.specs.declared.views.View.{View};
 
 use art_find::{Descent, Tally, go_down};
 use art_key::{Bound, Key};
-use art_look::{Look, Reached, Trail, look_on};
+use art_look::{Look, PathBuffer, Reached, look_on};
 use art_machine::{Action, Answer};
 use art_model::Answer as Reply;
 use art_step::{Act, Deed, Steps};
@@ -55,7 +55,7 @@ impl Walk {
     /// At its beginning.
     pub(crate) fn new(aim: Aim) -> Walk
         ensures aim { aim_of result ≡ aim }
-        ensures fresh { (z : Sizes) (k : List ℕ) (hi : KeyBound) (t : Trailed) → IsAtStart z k hi result t }
+        ensures fresh { (z : Sizes) (k : List ℕ) (hi : KeyBound) (t : PathBufferOf) → IsAtStart z k hi result t }
     {
         match aim {
             Aim::Key => Walk::Key(Descent::new()),
@@ -66,7 +66,7 @@ impl Walk {
     /// The next step, or none where it has ended.
     pub(crate) fn next(&self) -> Option<Action>
         ensures asks { result ≡ asks self.now }
-        ensures allowed { (z : Sizes) (k : List ℕ) (hi : KeyBound) (t : Trailed) (u v : View) (n : ℕ) →
+        ensures allowed { (z : Sizes) (k : List ℕ) (hi : KeyBound) (t : PathBufferOf) (u v : View) (n : ℕ) →
             Fits z k hi u self.now t n v → IfSome result (MayLook z (Settles self.now k t) v) }
         ensures going { ended_at self.now ≡ None → (a : ActionOf) × (result ≡ Some a) }
     {
@@ -76,23 +76,23 @@ impl Walk {
         }
     }
 
-    /// The step that it asked for was made, with this answer. Whether it goes on: else it begins anew. The key is the one that is
+    /// The step that it asked for was made, with this answer. Whether it goes on: else it restarts. The key is the one that is
     /// looked for, or the lower end of the range.
-    pub(crate) fn told(&mut self, key: &[u8], trail: &mut Trail, answer: Answer) -> bool
+    pub(crate) fn told(&mut self, key: &[u8], path_buffer: &mut PathBuffer, answer: Answer) -> bool
         requires short { length key.now ≤ 64 }
         requires told { (z : Sizes) × (hi : KeyBound) × (u : View) × (v : View) × (w : View) × (n : ℕ) × (asked : ActionOf) ×
-            Fits z key.now hi u self.old trail.old n v × (asks self.old ≡ Some asked) ×
-            Answers z (telling (deed_at self.old key.now hi trail.old)) asked answer v w }
+            Fits z key.now hi u self.old path_buffer.old n v × (asks self.old ≡ Some asked) ×
+            Answers z (telling (deed_at self.old key.now hi path_buffer.old)) asked answer v w }
         ensures on { result ≡ goes_on answer }
         ensures aim { aim_of self.new ≡ aim_of self.old }
         ensures fits { (z : Sizes) (hi : KeyBound) (u v w : View) (n : ℕ) (asked : ActionOf) →
-            Fits z key.now hi u self.old trail.old n v → asks self.old ≡ Some asked →
-            Answers z (telling (deed_at self.old key.now hi trail.old)) asked answer v w →
-            Fits z key.now hi u self.new trail.new (restarts_after n (goes_on answer)) w }
+            Fits z key.now hi u self.old path_buffer.old n v → asks self.old ≡ Some asked →
+            Answers z (telling (deed_at self.old key.now hi path_buffer.old)) asked answer v w →
+            Fits z key.now hi u self.new path_buffer.new (restarts_after n (goes_on answer)) w }
     {
         match self {
             Walk::Key(descent) => descent.told(key, answer),
-            Walk::Range(look) => look.told(key, trail, answer),
+            Walk::Range(look) => look.told(key, path_buffer, answer),
         }
     }
 
@@ -102,23 +102,23 @@ impl Walk {
         steps: &mut S,
         tally: &mut Tally,
         key: &[u8],
-        trail: &mut Trail,
+        path_buffer: &mut PathBuffer,
     )
         requires short { length key.now ≤ 64 }
         requires some { 0 < tally.old.left }
         requires goes { (hi : KeyBound) × (turns : ℕ) × (u : View) ×
-            HasTurns (S.sizes steps.old) key.now hi turns u self.old trail.old tally.old (S.view steps.old) }
+            HasTurns (S.sizes steps.old) key.now hi turns u self.old path_buffer.old tally.old (S.view steps.old) }
         ensures only { S.only steps.old steps.new }
         ensures aim { aim_of self.new ≡ aim_of self.old }
         ensures some { 0 < tally.new.left }
         ensures less { tally.new.left ≤ tally.old.left }
         ensures goes { (hi : KeyBound) (turns : ℕ) (u : View) →
-            HasTurns (S.sizes steps.old) key.now hi turns u self.old trail.old tally.old (S.view steps.old) →
-            HasTurns (S.sizes steps.old) key.now hi turns u self.new trail.new tally.new (S.view steps.new) }
+            HasTurns (S.sizes steps.old) key.now hi turns u self.old path_buffer.old tally.old (S.view steps.old) →
+            HasTurns (S.sizes steps.old) key.now hi turns u self.new path_buffer.new tally.new (S.view steps.new) }
     {
         match self {
             Walk::Key(descent) => go_down(steps, tally, descent, key),
-            Walk::Range(look) => look_on(steps, tally, look, key, trail),
+            Walk::Range(look) => look_on(steps, tally, look, key, path_buffer),
         }
     }
 
@@ -151,14 +151,14 @@ impl Walk {
 
     /// The event of the step that settles the answer.
     #[inline(always)]
-    pub(crate) fn deed(&self, key: &[u8], hi: &Bound, trail: &Trail) -> Deed
+    pub(crate) fn deed(&self, key: &[u8], hi: &Bound, path_buffer: &PathBuffer) -> Deed
         requires short { length key.now ≤ 64 }
         requires settles { (x : Stamp) × (asks self.now ≡ Some (settle_asked x)) }
-        ensures { result ≡ deed_at self.now key.now hi.now trail.now }
+        ensures { result ≡ deed_at self.now key.now hi.now path_buffer.now }
     {
         match self {
             Walk::Key(descent) => get_done(key, descent.answer()),
-            Walk::Range(look) => look_done(look, key, hi, trail),
+            Walk::Range(look) => look_done(look, key, hi, path_buffer),
         }
     }
 }
@@ -199,14 +199,14 @@ fn copied(bytes: &[u8]) -> Key
 
 /// What a look does that settles what it has seen.
 #[inline(always)]
-fn look_done(look: &Look, lo: &[u8], hi: &Bound, trail: &Trail) -> Deed
+fn look_done(look: &Look, lo: &[u8], hi: &Bound, path_buffer: &PathBuffer) -> Deed
     requires short { length lo.now ≤ 64 }
     requires settles { (x : Stamp) × (looks.asks look.now.stage ≡ Some (settle_asked x)) }
-    ensures { result ≡ looks.deed_at lo.now hi.now trail.now look.now.stage }
+    ensures { result ≡ looks.deed_at lo.now hi.now path_buffer.now look.now.stage }
 {
     let Some(reached) = look.reached() else {
         unreachable!()
     };
-    let seen = reached.seen(lo, hi, trail);
+    let seen = reached.seen(lo, hi, path_buffer);
     Deed::Look(seen.lo, seen.hi, seen.row)
 }

@@ -60,7 +60,7 @@ fn watch_command<G: Gate>(
     let mut running = start_command(table, pass, command, TURNS, rows);
     'steps: for _ in 0..u64::MAX {
         match running.step(table, rows) {
-            Progress::Made(kind, _) => gate.after(number, kind),
+            Progress::Made { kind, .. } => gate.after(number, kind),
             Progress::Ended => break,
         }
     }

@@ -1,15 +1,13 @@
 -- A call that begins.
-use Rattle.std.proofs.Common.{◌≡◌, ◌++◌, ◌∙◌, ℕ, List, None, refl, sym, ap, subst, append-nil}
+use Rattle.std.proofs.Common.{◌≡◌, ◌∙◌, ℕ, List, None, refl, sym, ap, subst}
 use Rattle.std.specs.Box.{with_value}
 use Rattle.arrayvec.specs.ArrayVec.{ArrayVec}
 use Rattle.art_call.specs.Calls.{IsAdmitted, IsCaller, IsCalling, StaysApart, Wish}
 use Rattle.art_call.specs.declared.callers.Caller.{Caller}
-use Rattle.art_key.proofs.TupleLaws.{none_begins}
 use Rattle.art_key.specs.Columns.{tuple_fault}
-use Rattle.art_key.specs.Spelling.{IsKeyOf, IsSpelling, spelling}
+use Rattle.art_key.specs.Spelling.{IsKeyOf, IsSpelling}
 use Rattle.art_key.specs.declared.columns.Column.{Column}
 use Rattle.art_model.specs.Rows.{Tuple}
-use Rattle.art_step.specs.Histories.{AreApart}
 use Rattle.art_step.specs.declared.views.Sizes.{Sizes}
 use Rattle.art_step.specs.declared.views.View.{View}
 use Rattle.art_table.specs.Calls.{IsUnderWay}
@@ -23,13 +21,6 @@ use Rattle.art_table.specs.declared.tables.Table.{Table}
 -- the key of a tuple
 pub spelled : (schema : List Column) (t : Tuple) (k : ArrayVec ℕ) → IsSpelling schema t.items k.items → k ≡ key_of schema t
 spelled schema t k is = ap (λ (bytes : List ℕ). record { items = bytes }) is.spelled
-
--- no key of a schema begins another
-pub keys_apart : (schema : List Column) → AreApart (IsKeyOf schema)
-keys_apart schema k j a b begins =
-    let same : spelling schema a.0 ++ begins.0 ≡ spelling schema b.0 = ap (λ (l : List ℕ). l ++ begins.0) (sym a.1.spelled) ∙ (begins.1 ∙ b.1.spelled) in
-    let none = (none_begins schema a.0 b.0 begins.0 a.1.stands b.1.stands same).1 in
-    sym (append-nil k) ∙ (ap (λ (rest : List ℕ). k ++ rest) (sym none) ∙ begins.1)
 
 -- its key is one of the schema
 pub wish_admitted : (schema : List Column) (j : Job) → job_fault schema j ≡ None → IsAdmitted (IsKeyOf schema) (wish_of schema j)

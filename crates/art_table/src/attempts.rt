@@ -27,7 +27,7 @@ pub struct Attempt {
 #[derive(Clone, Copy, Debug, PartialEq, Eq)]
 pub enum Progress {
     /// It made one of this kind, and with it its event, or not.
-    Made(StepKind, bool),
+    Made { kind: StepKind, event: bool },
     /// It has ended, and made none.
     Ended,
 }
@@ -71,7 +71,7 @@ impl Attempt {
             return Progress::Ended;
         }
         match self.pass.step(table) {
-            Some(Made { kind, event }) => Progress::Made(kind, event),
+            Some(Made { kind, event }) => Progress::Made { kind, event },
             None => Progress::Ended,
         }
     }

@@ -14,13 +14,13 @@ use art_model::{Row, Tuple};
 #[derive(Clone, Debug, PartialEq, Eq, Drop)]
 pub enum Job {
     /// A row comes, unless one with the tuple stands.
-    Insert(Tuple, u64),
+    Insert { tuple: Tuple, value: u64 },
     /// The row with the tuple goes.
     Remove(Tuple),
     /// The value of the row with the tuple is looked for.
     Get(Tuple),
     /// The first row from a bound on, before another, is looked for.
-    Look(Bound, Bound),
+    Look { lo: Bound, hi: Bound },
 }
 
 /// What a look has seen: at one moment the rows from `lo` on, before `hi`, were exactly this one, or none.

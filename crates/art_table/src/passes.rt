@@ -50,7 +50,7 @@ impl Pass {
     {
         let schema = table.schema();
         match job {
-            Job::Insert(tuple, value) => {
+            Job::Insert { tuple, value } => {
                 let key = encode(schema, tuple)?;
                 self.caller.begin_insert(&key, *value, turns);
             }
@@ -62,8 +62,11 @@ impl Pass {
                 let key = encode(schema, tuple)?;
                 self.caller.begin_get(&key, turns);
             }
-            Job::Look(Bound::At(key), hi) => self.caller.begin_look(key, hi, turns),
-            Job::Look(Bound::End, _) => unreachable!(),
+            Job::Look {
+                lo: Bound::At(key),
+                hi,
+            } => self.caller.begin_look(key, hi, turns),
+            Job::Look { lo: Bound::End, .. } => unreachable!(),
         }
         Ok(())
     }

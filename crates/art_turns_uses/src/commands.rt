@@ -89,8 +89,8 @@ fn until_events(
             return made;
         }
         match stepped(table, running, rows) {
-            Progress::Made(_, true) => events = events.saturating_add(1),
-            Progress::Made(_, false) => {}
+            Progress::Made { event: true, .. } => events = events.saturating_add(1),
+            Progress::Made { event: false, .. } => {}
             Progress::Ended => return made,
         }
     }
@@ -327,7 +327,10 @@ fn calls_are_commands(rt: HostRuntime) {
     let one = last_of(&rt, &table, &mut passes);
     let mut rows = ArrayVec::new();
     let insert = Command::Insert(tuple_of(5), 9);
-    let first = Progress::Made(StepKind::Epoch, false);
+    let first = Progress::Made {
+        kind: StepKind::Epoch,
+        event: false,
+    };
     let told = (first, Ending::Call(Ok(Outcome::New)));
     let one = steps_and_ends(&rt, &table, one, insert, &mut rows, told);
     let found = Ending::Call(Ok(Outcome::Found(9)));

@@ -16,7 +16,7 @@ fn check_step(rt: &impl Abort, table: &Table, attempt: &mut Attempt, kind: StepK
     requires { IsGoing table.now attempt.old }
     ensures { IsGoing table.now attempt.new }
 {
-    let wanted = Progress::Made(kind, false);
+    let wanted = Progress::Made { kind, event: false };
     assert_eq!(rt; stepped(table, attempt), wanted);
 }
 

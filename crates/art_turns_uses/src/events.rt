@@ -54,10 +54,10 @@ pub(crate) fn deed_of(rt: &impl Abort, job: Job, outcome: Outcome) -> Deed {
     }
     let reply = reply_of(&outcome).expect(rt, "a reply");
     match job {
-        Job::Insert(tuple, value) => Deed::Done(Command::Insert(tuple, value), reply),
+        Job::Insert { tuple, value } => Deed::Done(Command::Insert(tuple, value), reply),
         Job::Remove(tuple) => Deed::Done(Command::Remove(tuple), reply),
         Job::Get(tuple) => Deed::Done(Command::Get(tuple), reply),
-        Job::Look(lo, hi) => Deed::Look(lo, hi, None),
+        Job::Look { lo, hi } => Deed::Look(lo, hi, None),
     }
 }
 

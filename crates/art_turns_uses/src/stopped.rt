@@ -43,12 +43,18 @@ fn job_of(rt: &impl Abort, table: &Table, stopped: Stopped) -> Job
     ensures { IsRange result }
 {
     match stopped {
-        Stopped::Insert => Job::Insert(tuple_of(9), 90),
+        Stopped::Insert => Job::Insert {
+            tuple: tuple_of(9),
+            value: 90,
+        },
         Stopped::Remove => Job::Remove(tuple_of(4)),
         Stopped::Get => Job::Get(tuple_of(2)),
         Stopped::Look => {
             let key = encode(table.schema(), &tuple_of(0)).expect(rt, "a number of the column");
-            Job::Look(Bound::At(key), Bound::End)
+            Job::Look {
+                lo: Bound::At(key),
+                hi: Bound::End,
+            }
         }
     }
 }
@@ -123,7 +129,7 @@ fn steps(table: &Table, attempt: &mut Attempt, count: u32) -> Stop
     };
     for _ in 0..count {
         match stepped(table, attempt) {
-            Progress::Made(kind, told) => stop.note(kind, told),
+            Progress::Made { kind, event: told } => stop.note(kind, told),
             Progress::Ended => stop.ended = true,
         }
     }

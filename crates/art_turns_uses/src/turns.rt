@@ -54,15 +54,18 @@ fn job_of(rt: &impl Abort, table: &Table, wish: Wish) -> Job
     ensures { IsRange result }
 {
     match wish {
-        Wish::Insert(number, value) => Job::Insert(tuple_of(u64::from(number)), value),
+        Wish::Insert(number, value) => Job::Insert {
+            tuple: tuple_of(u64::from(number)),
+            value,
+        },
         Wish::Remove(number) => Job::Remove(tuple_of(u64::from(number))),
         Wish::Get(number) => Job::Get(tuple_of(u64::from(number))),
         Wish::Look(number) => {
             let key = encode(table.schema(), &tuple_of(u64::from(number)));
-            Job::Look(
-                Bound::At(key.expect(rt, "a number of the column")),
-                Bound::End,
-            )
+            Job::Look {
+                lo: Bound::At(key.expect(rt, "a number of the column")),
+                hi: Bound::End,
+            }
         }
     }
 }
@@ -86,7 +89,7 @@ fn steps(rt: &impl Abort, table: &Table, actor: &mut Actor, log: &mut Log) -> bo
     ensures { IsGoing table.now actor.new.attempt }
 {
     match stepped(table, &mut actor.attempt) {
-        Progress::Made(_, told) => {
+        Progress::Made { event: told, .. } => {
             if told {
                 assert!(rt; actor.place.is_none());
                 actor.place = Some(log.len());

@@ -1,3 +1,4 @@
 pub mod Cuts
 pub mod Events
+pub mod Keys
 pub mod Ranges

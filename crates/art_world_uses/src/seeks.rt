@@ -8,7 +8,7 @@ use crate::keys::key_of;
 use crate::worlds::{caller_of, opened};
 use art_call::{Caller, Outcome};
 use art_key::Bound;
-use art_look::{Seen, Trail};
+use art_look::{PathBuffer, Seen};
 use art_seek::{Aim, Seek, Stepped, step};
 use art_step::{EpochSteps, Sizes};
 use art_world::Stepper;
@@ -98,11 +98,11 @@ fn counts_of<S: EpochSteps>(steps: &mut S, key: &[u8], turns: u32) -> (u32, u32)
     requires may { MayPin (S.view steps.old) }
 {
     let mut seek = Seek::new(Aim::Key, turns);
-    let mut trail = Trail::new();
+    let mut path_buffer = PathBuffer::new();
     let mut counted = 0_u32;
     let mut told = 0_u32;
     while seek.ended().is_none() {
-        let made = step(steps, &mut seek, key, &Bound::End, &mut trail);
+        let made = step(steps, &mut seek, key, &Bound::End, &mut path_buffer);
         if made.stepped != Stepped::Frame {
             counted = counted.saturating_add(1);
         }

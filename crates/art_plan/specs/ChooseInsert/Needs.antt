@@ -5,7 +5,7 @@ use Rattle.art_cell.specs.declared.layouts.Layout.{Layout}
 use Rattle.art_cell.specs.declared.layouts.Layout.TheVariants.{Node4, Node256}
 use Rattle.art_plan.specs.declared.choose_insert.needs.Needs.{Needs}
 use Rattle.art_find.specs.declared.verdicts.Verdict.{Verdict}
-use Rattle.art_find.specs.declared.verdicts.Verdict.TheVariants.{OtherLeaf, OtherPrefix, Free}
+use Rattle.art_find.specs.declared.verdicts.Verdict.TheVariants.{LeafMismatch, PrefixMismatch, NoChild}
 use Rattle.art_node.specs.Sizes.{larger}
 
 -- no node, and nothing above is written
@@ -19,7 +19,7 @@ full_needs layout = record { node = Some (larger layout); above = true }
 
 -- a node that has both leaves, or the node with the other prefix and the leaf, is one of four places
 abbrev pub needs_of : Verdict → Needs
-needs_of (OtherLeaf l at byte) = record { node = Some Node4; above = false }
-needs_of (OtherPrefix n header at) = record { node = Some Node4; above = true }
-needs_of (Free n header) = if header % 512 == places n.layout then full_needs n.layout else nothing
+needs_of (LeafMismatch l at byte) = record { node = Some Node4; above = false }
+needs_of (PrefixMismatch n header at) = record { node = Some Node4; above = true }
+needs_of (NoChild n header) = if header % 512 == places n.layout then full_needs n.layout else nothing
 needs_of verdict = nothing

@@ -1,32 +1,34 @@
 -- What the plan of an insert is, by where its key stands.
-use Rattle.std.specs.Prelude.{◌≡◌, ◌⊎◌, ℕ, true, Some, ⊤}
+use Rattle.std.specs.Prelude.{◌≡◌, ◌⊎◌, ℕ, true, Some, ⊤, List, [], ◌∷◌, if◌then◌else◌}
 use Rattle.art_cell.specs.declared.layouts.Layout.{Layout}
 use Rattle.art_plan.specs.ArtCommit.CommitLaws.{HasNode}
 use Rattle.art_plan.specs.ChooseInsert.Needs.{needs_of}
 use Rattle.art_plan.specs.ChooseInsert.Seen.{IsSeen}
 use Rattle.art_find.specs.declared.verdicts.Verdict.{Verdict}
-use Rattle.art_find.specs.declared.verdicts.Verdict.TheVariants.{Empty, OtherLeaf, OtherPrefix, Free}
+use Rattle.art_find.specs.declared.verdicts.Verdict.TheVariants.{Empty, LeafMismatch, PrefixMismatch, NoChild}
 use Rattle.art_plan.specs.Insert.Cases.{IsInHand}
 use Rattle.art_plan.specs.declared.insert.leaves.NewLeaf.{NewLeaf}
 use Rattle.art_find.specs.Findings.{IsStanding}
-use Rattle.art_find.specs.declared.desks.Desk.{Desk}
+use Rattle.art_find.specs.declared.read_sets.ReadSet.{ReadSet}
 use Rattle.art_find.specs.declared.findings.Above.{Above}
-use Rattle.art_find.specs.declared.findings.Stand.{Stand}
+use Rattle.art_find.specs.declared.findings.Position.{Position}
 use Rattle.art_plan.specs.Changes.{IsPlanned, target_at}
 use Rattle.art_plan.specs.declared.changes.Change.{Change}
 use Rattle.art_plan.specs.declared.changes.Target.{Target}
 use Rattle.art_step.specs.declared.views.Sizes.{Sizes}
 use Rattle.art_step.specs.declared.views.Stamp.{Stamp}
 use Rattle.art_step.specs.declared.views.View.{View}
+use Rattle.art_cell.specs.Children.{child_word}
+use Rattle.art_cell.specs.declared.cells.Link.TheVariants.{Node as node}
 
 -- ---- the verdicts
 
 -- the tree has no leaf with the key, and it is known where one would stand
 abbrev pub Comes : Verdict → Type 0
 Comes Empty = ⊤
-Comes (OtherLeaf l at byte) = ⊤
-Comes (OtherPrefix n header at) = ⊤
-Comes (Free n header) = ⊤
+Comes (LeafMismatch l at byte) = ⊤
+Comes (PrefixMismatch n header at) = ⊤
+Comes (NoChild n header) = ⊤
 Comes verdict = ⊥
 
 -- the node that is needed, if one is, is in hand with this number
@@ -37,14 +39,19 @@ HasNeeded z u found made = (layout : Layout) → (needs_of found).node ≡ Some 
 -- ---- the plan
 
 -- the change is a plan for each pass that has seen what is written, still knows where the key stands, and has in hand what is needed
-abbrev pub PlansInsert : Stand → Desk → NewLeaf → ℕ → Change → Type 0
-PlansInsert t desk new made c = (z : Sizes) (u : View) → IsSeen z new.key.items t desk → IsStanding z new.key.items t desk u →
+abbrev pub PlansInsert : Position → ReadSet → NewLeaf → ℕ → Change → Type 0
+PlansInsert t read_set new made c = (z : Sizes) (u : View) → IsSeen z new.key.items t read_set → IsStanding z new.key.items t read_set u →
     IsInHand z u new → HasNeeded z u t.verdict made → IsPlanned z u c
+
+-- the child word of the node that gives way to a larger one, if one does
+abbrev pub gives_way : Verdict → List ℕ
+gives_way (NoChild n header) = if (needs_of (NoChild n header)).above then child_word (node n) ∷ [] else []
+gives_way found = []
 
 -- ---- which cells are locked
 
 -- the stamp is that of the cell where the key stands, or of the cell above where that is written too
-abbrev pub IsLockedAt : Stand → Stamp → Type 0
+abbrev pub IsLockedAt : Position → Stamp → Type 0
 IsLockedAt t x = (x ≡ t.stamp) ⊎ ((a : Above) × (t.above ≡ Some a) × ((needs_of t.verdict).above ≡ true) × (x ≡ a.stamp))
 
 -- each cell that the change locks is under such a stamp

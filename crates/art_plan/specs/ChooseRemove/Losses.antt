@@ -8,9 +8,9 @@ use Rattle.art_cell.specs.declared.layouts.Layout.TheVariants.{Node4, Node16, No
 use Rattle.art_plan.specs.declared.choose_remove.losses.Loss.{Loss}
 use Rattle.art_plan.specs.declared.choose_remove.losses.Loss.TheVariants.{Leaf, Merges, Shrinks}
 use Rattle.art_node.specs.Sizes.{smaller}
-use Rattle.art_plan.specs.ArtFind.Desks.{node_of}
-use Rattle.art_plan.specs.ArtFind.declared.desks.Desk.{Desk}
-use Rattle.art_plan.specs.ArtFind.declared.findings.Stand.{Stand}
+use Rattle.art_plan.specs.ArtFind.ReadSets.{node_of}
+use Rattle.art_plan.specs.ArtFind.declared.read_sets.ReadSet.{ReadSet}
+use Rattle.art_plan.specs.ArtFind.declared.findings.Position.{Position}
 
 -- with how many children a node gives way to a smaller one, which has places for more; the smallest does not
 abbrev pub few_of : Layout → ℕ
@@ -29,5 +29,5 @@ loss_of (cell.Node n) header = loss_in n.layout (header % 512)
 loss_of c header = Leaf
 
 -- by the header that was read
-abbrev pub loss_at : Stand → Desk → Loss
-loss_at t desk = loss_of t.stamp.cell (unwrap_or (word_read (node_of desk) 1) 0)
+abbrev pub loss_at : Position → ReadSet → Loss
+loss_at t read_set = loss_of t.stamp.cell (unwrap_or (word_read (node_of read_set) 1) 0)

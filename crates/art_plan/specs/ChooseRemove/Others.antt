@@ -7,11 +7,11 @@ use Rattle.art_cell.specs.Words.{Words, first_child, size}
 use Rattle.art_cell.specs.declared.cells.Link.{Link}
 use Rattle.art_cell.specs.declared.layouts.Layout.{Layout}
 use Rattle.art_cell.specs.declared.node_kinds.Entry.{Entry}
-use Rattle.art_plan.specs.ArtFind.Desks.{node_of}
+use Rattle.art_plan.specs.ArtFind.ReadSets.{node_of}
 use Rattle.art_plan.specs.ArtFind.Findings.{IsStanding}
 use Rattle.art_plan.specs.ArtFind.Rereadings.{AreKnown}
-use Rattle.art_plan.specs.ArtFind.declared.desks.Desk.{Desk}
-use Rattle.art_plan.specs.ArtFind.declared.findings.Stand.{Stand}
+use Rattle.art_plan.specs.ArtFind.declared.read_sets.ReadSet.{ReadSet}
+use Rattle.art_plan.specs.ArtFind.declared.findings.Position.{Position}
 use Rattle.art_step.specs.Knowledge.{KnowsPath}
 use Rattle.art_step.specs.Views.{IsChildPlace, cell_named, size_of}
 use Rattle.art_step.specs.declared.views.Sizes.{Sizes}
@@ -41,15 +41,15 @@ IsBeside child byte (Some entry) = (entry.byte ≢ byte) × (child entry.byte �
 IsBeside child byte None = (b : ℕ) → b < 256 → b ≢ byte → child b ≡ None
 
 -- a word that was read of the cell at a place of a child names the link
-pub record NamesChild (t : Stand) (desk : Desk) (d : Link) : Type 0 where
+pub record NamesChild (t : Position) (read_set : ReadSet) (d : Link) : Type 0 where
   pub place : ℕ
   pub child : IsChildPlace t.stamp.cell place
   pub word : ℕ
-  pub read : word_read (node_of desk) place ≡ Some word
+  pub read : word_read (node_of read_set) place ≡ Some word
   pub names : link_of word ≡ Some d
 
 -- each pass that knows all words of the cell, and where the leaf stands, knows a path to the child in each tree in which they hold: so a
 -- check of the cell gives the child its path
-abbrev pub LeadsTo : Stand → Desk → List ℕ → Link → Type 0
-LeadsTo t desk k d = (z : Sizes) (v : View) → IsStanding z k t desk v → AreKnown (node_of desk) 1 (size_of t.stamp.cell) →
+abbrev pub LeadsTo : Position → ReadSet → List ℕ → Link → Type 0
+LeadsTo t read_set k d = (z : Sizes) (v : View) → IsStanding z k t read_set v → AreKnown (node_of read_set) 1 (size_of t.stamp.cell) →
     (q : List ℕ) × KnowsPath z v t.stamp (cell_named d) q

@@ -3,12 +3,12 @@ use Rattle.std.specs.Prelude.{◌≡◌, ℕ, List, Option, Some}
 use Rattle.art_cell.specs.declared.cells.Cell.TheVariants as cells
 use Rattle.art_plan.specs.declared.choose_remove.lowers.Lower.{Lower}
 use Rattle.art_plan.specs.ChooseInsert.Seen.{WasSeen}
-use Rattle.art_plan.specs.ArtFind.Desks.{above_of, node_of}
+use Rattle.art_plan.specs.ArtFind.ReadSets.{above_of, node_of}
 use Rattle.art_plan.specs.ArtFind.Kept.{HasPath, IsKept}
 use Rattle.art_plan.specs.ArtFind.Rereadings.{AreKnown}
-use Rattle.art_plan.specs.ArtFind.declared.desks.Desk.{Desk}
+use Rattle.art_plan.specs.ArtFind.declared.read_sets.ReadSet.{ReadSet}
 use Rattle.art_plan.specs.ArtFind.declared.findings.Above.{Above}
-use Rattle.art_plan.specs.ArtFind.declared.findings.Stand.{Stand}
+use Rattle.art_plan.specs.ArtFind.declared.findings.Position.{Position}
 use Rattle.art_step.specs.Knowledge.{HoldsAll, IsShape}
 use Rattle.art_step.specs.Shows.{HasStamp}
 use Rattle.art_step.specs.Views.{size_of}
@@ -17,13 +17,13 @@ use Rattle.art_step.specs.declared.views.View.{View}
 use Rattle.art_tree.specs.Heaps.{Cells}
 
 -- all words of the cell that names the leaf were read, and a check succeeded after that
-abbrev pub IsSeen : Sizes → List ℕ → Stand → Desk → Type 0
-IsSeen z k t desk = WasSeen z k t desk t.stamp (node_of desk)
+abbrev pub IsSeen : Sizes → List ℕ → Position → ReadSet → Type 0
+IsSeen z k t read_set = WasSeen z k t read_set t.stamp (node_of read_set)
 
 -- so it was, and so was the cell above
-pub record AreSeen (z : Sizes) (k : List ℕ) (t : Stand) (desk : Desk) : Type 0 where
-  pub node : IsSeen z k t desk
-  pub above : (a : Above) → t.above ≡ Some a → WasSeen z k t desk a.stamp (above_of desk)
+pub record AreSeen (z : Sizes) (k : List ℕ) (t : Position) (read_set : ReadSet) : Type 0 where
+  pub node : IsSeen z k t read_set
+  pub above : (a : Above) → t.above ≡ Some a → WasSeen z k t read_set a.stamp (above_of read_set)
 
 -- ---- the lower node
 

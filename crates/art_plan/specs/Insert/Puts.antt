@@ -1,5 +1,5 @@
 -- The node that an insert makes, and what it does.
-use Rattle.std.specs.Prelude.{ℕ}
+use Rattle.std.specs.Prelude.{ℕ, List, Some}
 use Rattle.art_cell.specs.declared.bodies.Body.{Body}
 use Rattle.art_cell.specs.declared.cells.Node.{Node}
 use Rattle.art_cell.specs.declared.layouts.Layout.TheVariants.{Node4}
@@ -9,6 +9,7 @@ use Rattle.art_node.specs.Sizes.{larger}
 use Rattle.art_step.specs.declared.deeds.Act.TheVariants.{Insert}
 use Rattle.art_step.specs.declared.deeds.Deed.{Deed}
 use Rattle.art_step.specs.declared.deeds.Deed.TheVariants.{Done}
+use Rattle.art_machine.specs.declared.actions.Effects.{Effects}
 
 -- the node of four places with this number
 abbrev pub node4 : ℕ → Node
@@ -21,3 +22,7 @@ larger_node body number = record { layout = larger body.layout; number = number 
 -- the leaf comes
 abbrev pub inserted : NewLeaf → Deed
 inserted new = Done (Insert new.key new.value) Inserted
+
+-- what its insert does: it comes, and what has these child words leaves, in this order
+abbrev pub insert_effects : NewLeaf → List ℕ → Effects
+insert_effects new words = record { deed = inserted new; leaf = Some new.number; unlinked = record { items = words } }

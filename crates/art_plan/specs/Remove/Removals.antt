@@ -1,5 +1,5 @@
 -- What a removal does, how many children a node keeps, and what comes in its place.
-use Rattle.std.specs.Prelude.{◌≡◌, ◌≢◌, ℕ, ◌+◌, ◌<◌, ◌≤◌, List, ◌∷◌, ◌++◌, length, Some, ⊤}
+use Rattle.std.specs.Prelude.{◌≡◌, ◌≢◌, ℕ, ◌+◌, ◌<◌, ◌≤◌, List, ◌∷◌, ◌++◌, length, Some, ⊤, None}
 use Rattle.art_cell.specs.Bodies.{IsBody}
 use Rattle.art_cell.specs.Reads.{word_of}
 use Rattle.art_cell.specs.Words.{child_of, count_of, places}
@@ -16,10 +16,21 @@ use Rattle.art_plan.specs.declared.remove.leaves.OldLeaf.{OldLeaf}
 use Rattle.art_step.specs.declared.deeds.Act.TheVariants.{Remove}
 use Rattle.art_step.specs.declared.deeds.Deed.{Deed}
 use Rattle.art_step.specs.declared.deeds.Deed.TheVariants.{Done}
+use Rattle.art_machine.specs.declared.actions.Effects.{Effects}
+use Rattle.art_cell.specs.Children.{child_word}
+use Rattle.art_cell.specs.declared.cells.Link.TheVariants.{Leaf as leaf}
 
 -- the leaf's key goes, which had the leaf's value
 abbrev pub removed : OldLeaf → Deed
 removed old = Done (Remove old.key) (Removed old.value)
+
+-- what its removal does: the leaf leaves, and then what has these child words, in this order
+abbrev pub remove_effects : OldLeaf → List ℕ → Effects
+remove_effects old words = record {
+  deed = removed old;
+  leaf = None;
+  unlinked = record { items = child_word (leaf old.number) ∷ words };
+}
 
 -- ---- how many children a node keeps
 

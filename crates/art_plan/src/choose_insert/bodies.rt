@@ -67,7 +67,11 @@ pub(crate) fn slot_at<'a>(stamp: Stamp, body: &'a Body, key: &[u8], index: usize
     ensures slot { result ≡ Slot stamp body.entry (slice_index key.now index) }
     ensures byte { slice_index key.now index < 256 }
 {
-    Site::Slot(stamp, body, byte_at(key, index))
+    Site::Slot {
+        stamp,
+        body,
+        byte: byte_at(key, index),
+    }
 }
 
 /// The byte of the key with this index.

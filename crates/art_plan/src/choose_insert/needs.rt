@@ -20,15 +20,15 @@ pub fn needed(verdict: &Verdict) -> Needs
     ensures { result ≡ needs_of verdict.now }
 {
     match *verdict {
-        Verdict::OtherLeaf(_, _, _) => Needs {
+        Verdict::LeafMismatch { .. } => Needs {
             node: Some(Layout::Node4),
             above: false,
         },
-        Verdict::OtherPrefix(_, _, _) => Needs {
+        Verdict::PrefixMismatch { .. } => Needs {
             node: Some(Layout::Node4),
             above: true,
         },
-        Verdict::Free(node, header) => in_node(node, header),
+        Verdict::NoChild { node, header } => in_node(node, header),
         _ => Needs {
             node: None,
             above: false,
@@ -38,7 +38,7 @@ pub fn needed(verdict: &Verdict) -> Needs
 
 /// What it needs at a free byte of a node with this header.
 fn in_node(node: Node, header: u64) -> Needs
-    ensures { result ≡ needs_of (verdicts.Free node header) }
+    ensures { result ≡ needs_of (verdicts.NoChild node header) }
 {
     if header % 512 == node.layout.places() as u64 {
         match node.layout {

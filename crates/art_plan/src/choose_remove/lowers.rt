@@ -2,15 +2,15 @@
 ghost use Rattle.std.specs.Prelude.{◌≡◌, ◌≢◌, None, true, false};
 ghost use Rattle.art_cell.specs.Leaves.{prefix_read};
 ghost use Rattle.art_cell.specs.declared.cells.Link.TheVariants.{Node as node_link};
-ghost use Rattle.art_plan.specs.ChooseRemove.Plans.{ArePartsOf, HasFound, HasOther, IsAnyAt, MayNotMerge, PlansMergeNode};
+ghost use Rattle.art_plan.specs.ChooseRemove.Plans.{ArePartsOf, HasFound, HasOther, IsAnyAt, MayNotMerge, PlansMergeNode, node_words};
 ghost use Rattle.art_plan.specs.ChooseRemove.Seen.{AreSeen, IsLowerSeen};
 ghost use Rattle.art_plan.specs.ChooseInsert.Plans.{LocksOnly};
-ghost use Rattle.art_plan.specs.ArtFind.Desks.{node_of};
+ghost use Rattle.art_plan.specs.ArtFind.ReadSets.{node_of};
 ghost use Rattle.art_plan.specs.Changes.{targets};
-ghost use Rattle.art_plan.specs.Remove.Removals.{removed};
+ghost use Rattle.art_plan.specs.Remove.Removals.{removed, remove_effects};
 ghost use Rattle.art_step.specs.declared.views.Sizes.{Sizes};
 
-use crate::art_find::{Desk, Stand};
+use crate::art_find::{Position, ReadSet};
 use crate::choose_insert::{Bodies, fill, site_at};
 use crate::remove::{OldLeaf, merge_node};
 use crate::{Below, Change};
@@ -36,35 +36,36 @@ pub fn plan_merge_node(
     change: &mut Change,
     bodies: &mut Bodies,
     lower_body: &mut Body,
-    stand: &Stand,
-    desk: &Desk,
+    position: &Position,
+    read_set: &ReadSet,
     lower: &Lower,
     reads: &Reads,
     old: &OldLeaf,
 ) -> bool
-    requires found { HasFound stand.now old.now }
-    requires other { HasOther stand.now desk.now old.now lower.now.byte (node_link lower.now.node) }
-    requires seen { (z : Sizes) × AreSeen z old.now.key.items stand.now desk.now × IsLowerSeen z lower.now reads.now }
-    ensures planned { result ≡ true → PlansMergeNode stand.now desk.now lower.now reads.now old.now change.new }
+    requires found { HasFound position.now old.now }
+    requires other { HasOther position.now read_set.now old.now lower.now.byte (node_link lower.now.node) }
+    requires seen { (z : Sizes) × AreSeen z old.now.key.items position.now read_set.now × IsLowerSeen z lower.now reads.now }
+    ensures planned { result ≡ true → PlansMergeNode position.now read_set.now lower.now reads.now old.now change.new }
     ensures targets { result ≡ true → targets change.new ≡ 3 }
-    ensures locks { result ≡ true → LocksOnly (IsAnyAt stand.now lower.now) change.new }
+    ensures locks { result ≡ true → LocksOnly (IsAnyAt position.now lower.now) change.new }
     ensures deed { change.new.effects.deed ≡ removed old.now }
     ensures leaf { change.new.effects.leaf ≡ None }
-    ensures refused { result ≡ false → MayNotMerge stand.now desk.now lower.now reads.now }
+    ensures effects { result ≡ true → change.new.effects ≡ remove_effects old.now (node_words position.now.stamp.cell) }
+    ensures refused { result ≡ false → MayNotMerge position.now read_set.now lower.now reads.now }
 {
-    let Cell::Node(node) = stand.stamp.cell else {
+    let Cell::Node(node) = position.stamp.cell else {
         unreachable!();
     };
-    let Some(above) = stand.above else {
+    let Some(above) = position.above else {
         unreachable!();
     };
-    fill(&mut bodies.node, stand.stamp.cell, desk.node());
-    fill(&mut bodies.above, above.stamp.cell, desk.above());
+    fill(&mut bodies.node, position.stamp.cell, read_set.node());
+    fill(&mut bodies.above, above.stamp.cell, read_set.above());
     fill(lower_body, lower.stamp.cell, reads);
     let site = site_at(above.stamp, &bodies.above, old.key.as_slice(), above.depth);
     let below = Below {
         node,
-        stamp: stand.stamp,
+        stamp: position.stamp,
         body: &bodies.node,
     };
     let beneath = Below {
@@ -72,19 +73,19 @@ pub fn plan_merge_node(
         stamp: lower.stamp,
         body: lower_body,
     };
-    let parts = parts_of(desk, lower, reads);
+    let parts = parts_of(read_set, lower, reads);
     // The checks came one after another, so they do not show that the lower node is not above too.
     let apart = above.stamp.cell != lower.stamp.cell;
     merge_node(change, &site, &below, &beneath, &parts, old) && apart
 }
 
 /// The prefix of the node, the byte of the lower one, and the prefix of this.
-fn parts_of(desk: &Desk, lower: &Lower, reads: &Reads) -> Parts
-    requires front { prefix_read (node_of desk.now) ≢ None }
+fn parts_of(read_set: &ReadSet, lower: &Lower, reads: &Reads) -> Parts
+    requires front { prefix_read (node_of read_set.now) ≢ None }
     requires rest { prefix_read reads.now ≢ None }
-    ensures { ArePartsOf desk.now lower.now reads.now result }
+    ensures { ArePartsOf read_set.now lower.now reads.now result }
 {
-    let (Some(front), Some(rest)) = (prefix(desk.node()), prefix(reads)) else {
+    let (Some(front), Some(rest)) = (prefix(read_set.node()), prefix(reads)) else {
         unreachable!();
     };
     Parts {

@@ -7,30 +7,30 @@ ghost use Rattle.art_plan.specs.ChooseRemove.Others.{IsBeside, IsChildRead, IsLe
 ghost use Rattle.art_plan.specs.ChooseRemove.Plans.{HasFound, HasOther};
 ghost use Rattle.art_plan.specs.ChooseRemove.Seen.{IsSeen};
 ghost use Rattle.art_plan.specs.declared.choose_remove.losses.Loss.TheVariants as losses;
-ghost use Rattle.art_plan.specs.ArtFind.Desks.{node_of};
-ghost use Rattle.art_plan.specs.ArtFind.declared.desks.Desk.{Desk as DeskOf};
+ghost use Rattle.art_plan.specs.ArtFind.ReadSets.{node_of};
+ghost use Rattle.art_plan.specs.ArtFind.declared.read_sets.ReadSet.{ReadSet as ReadSetOf};
 ghost use Rattle.art_step.specs.declared.views.Sizes.{Sizes};
 
-use crate::art_find::{Desk, Stand};
+use crate::art_find::{Position, ReadSet};
 use crate::remove::OldLeaf;
 use art_cell::{Cell, Entry, Layout, Link, NextProbe, Reads};
 use art_node::{at_least, link_in};
 
 /// The child of the node beside the leaf, with its byte, as the words that were read have it, checked or not. None where they have
 /// no such child. It stays the one however far the cell above is read after this.
-pub fn other_child(stand: &Stand, desk: &Desk, old: &OldLeaf) -> Option<(u8, Link)>
-    requires found { HasFound stand.now old.now }
-    ensures named { IfSome result (λ child. NamesChild stand.now desk.now child.1) }
-    ensures led { IfSome result (λ child. LeadsTo stand.now desk.now old.now.key.items child.1) }
-    ensures other { (z : Sizes) (later : DeskOf) → node_of later ≡ node_of desk.now → IsSeen z old.now.key.items stand.now later →
-        loss_at stand.now later ≡ losses.Merges →
-        (beside : ℕ) × (d : LinkOf) × (result ≡ Some (beside, d)) × HasOther stand.now later old.now beside d }
+pub fn other_child(position: &Position, read_set: &ReadSet, old: &OldLeaf) -> Option<(u8, Link)>
+    requires found { HasFound position.now old.now }
+    ensures named { IfSome result (λ child. NamesChild position.now read_set.now child.1) }
+    ensures led { IfSome result (λ child. LeadsTo position.now read_set.now old.now.key.items child.1) }
+    ensures other { (z : Sizes) (later : ReadSetOf) → node_of later ≡ node_of read_set.now → IsSeen z old.now.key.items position.now later →
+        loss_at position.now later ≡ losses.Merges →
+        (beside : ℕ) × (d : LinkOf) × (result ≡ Some (beside, d)) × HasOther position.now later old.now beside d }
 {
-    let Cell::Node(node) = stand.stamp.cell else {
+    let Cell::Node(node) = position.stamp.cell else {
         return None;
     };
-    let byte = last_byte(old.key.as_slice(), stand.depth)?;
-    let entry = beside(node.layout, byte, desk.node())?;
+    let byte = last_byte(old.key.as_slice(), position.depth)?;
+    let entry = beside(node.layout, byte, read_set.node())?;
     let link = link_in(entry.child)?;
     Some((entry.byte, link))
 }

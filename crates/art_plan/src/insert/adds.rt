@@ -1,7 +1,7 @@
 //! A leaf comes to a free place.
 ghost use Rattle.std.specs.Prelude.{◌≡◌, ◌∷◌, ℕ, [], Some};
 ghost use Rattle.art_plan.specs.Insert.Cases.{IsAdd};
-ghost use Rattle.art_plan.specs.Insert.Puts.{inserted};
+ghost use Rattle.art_plan.specs.Insert.Puts.{insert_effects};
 ghost use Rattle.art_plan.specs.Changes.{IsPlanned, targets};
 ghost use Rattle.art_plan.specs.Puts.{IsFree};
 ghost use Rattle.art_plan.specs.Seen.{kept, site_stamp};
@@ -19,8 +19,7 @@ pub fn add(change: &mut Change, site: &Site, new: &NewLeaf)
     ensures planned { (z : Sizes) (u : View) (depth : ℕ) → IsAdd z u site.now new.now depth → IsPlanned z u change.new }
     ensures targets { targets change.new ≡ 1 }
     ensures locks { change.new.targets.items ≡ kept (site_stamp site.now) ∷ [] }
-    ensures deed { change.new.effects.deed ≡ inserted new.now }
-    ensures leaf { change.new.effects.leaf ≡ Some new.now.number }
+    ensures effects { change.new.effects ≡ insert_effects new.now [] }
 {
     added(site, child_word(Link::Leaf(new.number)), &mut change.writes);
     begin(change, new);

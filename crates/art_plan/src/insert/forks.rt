@@ -3,7 +3,7 @@ ghost use Rattle.std.specs.Prelude.{◌≡◌, ◌≢◌, ◌+◌, ◌<◌, ◌�
 ghost use Rattle.art_cell.specs.Bodies.{IsBody};
 ghost use Rattle.art_cell.specs.Reads.{word_of};
 ghost use Rattle.art_plan.specs.Insert.Cases.{IsForkLeaf, IsForkPrefix};
-ghost use Rattle.art_plan.specs.Insert.Puts.{inserted};
+ghost use Rattle.art_plan.specs.Insert.Puts.{insert_effects};
 ghost use Rattle.art_plan.specs.Changes.{IsPlanned, targets};
 ghost use Rattle.art_plan.specs.Puts.{IsTaken};
 ghost use Rattle.art_plan.specs.Seen.{kept, site_stamp};
@@ -33,8 +33,7 @@ pub fn fork_leaf(
     ensures planned { (z : Sizes) (u : View) → IsForkLeaf z u site.now new.now parting other byte made → IsPlanned z u change.new }
     ensures targets { targets change.new ≡ 1 }
     ensures locks { change.new.targets.items ≡ kept (site_stamp site.now) ∷ [] }
-    ensures deed { change.new.effects.deed ≡ inserted new.now }
-    ensures leaf { change.new.effects.leaf ≡ Some new.now.number }
+    ensures effects { change.new.effects ≡ insert_effects new.now [] }
 {
     let key = new.key.as_slice();
     let at = parting.depth + parting.common;
@@ -80,8 +79,7 @@ pub fn fork_prefix(
         → IsPlanned z u change.new }
     ensures targets { targets change.new ≡ 2 }
     ensures locks { change.new.targets.items ≡ kept (site_stamp site.now) ∷ kept below.now.stamp ∷ [] }
-    ensures deed { change.new.effects.deed ≡ inserted new.now }
-    ensures leaf { change.new.effects.leaf ≡ Some new.now.number }
+    ensures effects { change.new.effects ≡ insert_effects new.now [] }
 {
     let parts = split(prefix, parting.common);
     let key = new.key.as_slice();

@@ -4,7 +4,7 @@ ghost use Rattle.art_plan.specs.Changes.{IsPlanned, targets};
 ghost use Rattle.art_plan.specs.Puts.{IsTaken};
 ghost use Rattle.art_plan.specs.Seen.{kept, site_stamp};
 ghost use Rattle.art_plan.specs.Remove.Cases.{IsDrop};
-ghost use Rattle.art_plan.specs.Remove.Removals.{KeepsTwo, removed};
+ghost use Rattle.art_plan.specs.Remove.Removals.{KeepsTwo, remove_effects};
 ghost use Rattle.art_step.specs.declared.views.Sizes.{Sizes};
 ghost use Rattle.art_step.specs.declared.views.View.{View};
 
@@ -20,8 +20,7 @@ pub fn drop(change: &mut Change, site: &Site, old: &OldLeaf)
     ensures planned { (z : Sizes) (u : View) (depth : ℕ) → IsDrop z u site.now old.now depth → IsPlanned z u change.new }
     ensures targets { targets change.new ≡ 1 }
     ensures locks { change.new.targets.items ≡ kept (site_stamp site.now) ∷ [] }
-    ensures deed { change.new.effects.deed ≡ removed old.now }
-    ensures leaf { change.new.effects.leaf ≡ None }
+    ensures effects { change.new.effects ≡ remove_effects old.now [] }
 {
     let old_leaf = child_word(Link::Leaf(old.number));
     dropped(site, &mut change.writes);

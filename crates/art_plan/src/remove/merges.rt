@@ -4,9 +4,9 @@ ghost use Rattle.art_cell.specs.Bodies.{IsBody};
 ghost use Rattle.art_cell.specs.Reads.{word_of};
 ghost use Rattle.art_plan.specs.Changes.{IsPlanned, targets};
 ghost use Rattle.art_plan.specs.Puts.{IsTaken};
-ghost use Rattle.art_plan.specs.Seen.{gone, kept, site_stamp};
+ghost use Rattle.art_plan.specs.Seen.{gone, kept, site_stamp, word_below};
 ghost use Rattle.art_plan.specs.Remove.Cases.{IsMergeLeaf, IsMergeNode};
-ghost use Rattle.art_plan.specs.Remove.Removals.{IsTooLong, removed};
+ghost use Rattle.art_plan.specs.Remove.Removals.{IsTooLong, removed, remove_effects};
 ghost use Rattle.art_step.specs.declared.views.Sizes.{Sizes};
 ghost use Rattle.art_step.specs.declared.views.View.{View};
 
@@ -23,8 +23,7 @@ pub fn merge_leaf(change: &mut Change, site: &Site, below: &Below, other: u32, o
         → IsMergeLeaf z u site.now old.now depth below.now byte beside other → IsPlanned z u change.new }
     ensures targets { targets change.new ≡ 2 }
     ensures locks { change.new.targets.items ≡ kept (site_stamp site.now) ∷ gone below.now.stamp ∷ [] }
-    ensures deed { change.new.effects.deed ≡ removed old.now }
-    ensures leaf { change.new.effects.leaf ≡ None }
+    ensures effects { change.new.effects ≡ remove_effects old.now (word_below below.now ∷ []) }
 {
     let old_leaf = child_word(Link::Leaf(old.number));
     let old_node = child_word(Link::Node(below.node));
@@ -56,6 +55,7 @@ pub fn merge_node(
         change.new.targets.items ≡ kept (site_stamp site.now) ∷ gone below.now.stamp ∷ kept lower.now.stamp ∷ [] }
     ensures deed { change.new.effects.deed ≡ removed old.now }
     ensures leaf { change.new.effects.leaf ≡ None }
+    ensures effects { result ≡ true → change.new.effects ≡ remove_effects old.now (word_below below.now ∷ []) }
     ensures refused { result ≡ false → IsTooLong parts.now }
 {
     begin(change, old);

@@ -7,9 +7,9 @@ ghost use Rattle.art_node.specs.Prefixes.{IsNodeOf};
 ghost use Rattle.art_node.specs.Sizes.{smaller};
 ghost use Rattle.art_plan.specs.Changes.{IsPlanned, targets};
 ghost use Rattle.art_plan.specs.Puts.{HasChild, IsTaken};
-ghost use Rattle.art_plan.specs.Seen.{gone, kept, site_stamp};
+ghost use Rattle.art_plan.specs.Seen.{gone, kept, site_stamp, word_below};
 ghost use Rattle.art_plan.specs.Remove.Cases.{IsShrink};
-ghost use Rattle.art_plan.specs.Remove.Removals.{IsSparse, removed, smaller_node};
+ghost use Rattle.art_plan.specs.Remove.Removals.{IsSparse, smaller_node, remove_effects};
 ghost use Rattle.art_step.specs.declared.views.Sizes.{Sizes};
 ghost use Rattle.art_step.specs.declared.views.View.{View};
 
@@ -30,8 +30,7 @@ pub fn shrink(change: &mut Change, site: &Site, below: &Below, byte: u8, old: &O
         → IsShrink z u site.now old.now depth below.now byte (smaller_node below.now.body.now made) → IsPlanned z u change.new }
     ensures targets { targets change.new ≡ 2 }
     ensures locks { change.new.targets.items ≡ kept (site_stamp site.now) ∷ gone below.now.stamp ∷ [] }
-    ensures deed { change.new.effects.deed ≡ removed old.now }
-    ensures leaf { change.new.effects.leaf ≡ None }
+    ensures effects { change.new.effects ≡ remove_effects old.now (word_below below.now ∷ []) }
 {
     shrunk(below.body, byte, &mut change.body);
     let new_node = child_word(Link::Node(Node {

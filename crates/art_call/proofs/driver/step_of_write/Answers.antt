@@ -1,4 +1,4 @@
-use Rattle.std.proofs.Common.{◌≡◌, ℕ, suc, zero, true, ◌∙◌, refl, ap, sym, subst, arith}
+use Rattle.std.proofs.Common.{◌≡◌, ℕ, suc, zero, true, List, ◌∙◌, inl, inr, refl, ap, sym, subst, arith}
 use Rattle.std.specs.Option.{is_some}
 use Rattle.std.specs.Prelude.{Option, None, Some}
 use Rattle.arrayvec.specs.ArrayVec.{ArrayVec}
@@ -6,10 +6,10 @@ use Rattle.art_call.proofs.driver.step_of_write.Goals as goal
 use Rattle.art_call.specs.AsAsked.{WriteMakes}
 use Rattle.art_call.specs.Made.{MakesStep}
 use Rattle.art_change.specs.ArtAttempt.declared.rooms.Room.{Room}
-use Rattle.art_change.proofs.Overlaps.{still_apart}
+use Rattle.art_change.proofs.Overlaps.{none_overlaps, still_apart}
 use Rattle.art_change.specs.Tries.{SameKey, key_of}
 use Rattle.art_change.specs.Writes as writes
-use Rattle.art_change.specs.Writes.{Fits}
+use Rattle.art_change.specs.Writes.{FindsOverlap, Fits, NoneOverlaps}
 use Rattle.art_change.specs.declared.tries.Job.{Job}
 use Rattle.art_epoch.specs.Limbo.{places_of}
 use Rattle.art_step.specs.declared.views.Sizes.{Sizes}
@@ -22,6 +22,12 @@ some_there None some = cc
 same_then : (j : Job) (a b r : Room) → SameKey j a b → SameKey j b r → SameKey j a r
 same_then j a b r first next = record { key = next.key ∙ first.key; value = next.value ∙ first.value }
 
+-- where none overlaps before the steps that were none, none does after them
+none_overlaps_at : (A B : List ℕ → Type 0) → ((k : List ℕ) → B k → A k) → (z y : Sizes) (k j : ArrayVec ℕ) (v u w : View) → y ≡ z → j ≡ k → u ≡ v → NoneOverlaps A z k.items v w → NoneOverlaps B y j.items u w
+none_overlaps_at A B back z y k j v u w sizes key view (inl apart) = inl (still_apart A B back apart)
+none_overlaps_at A B back z y k j v u w sizes key view (inr none) = inr (λ (o : FindsOverlap y j.items u w).
+    none (subst (λ (x : View). FindsOverlap z k.items x w) view (subst (λ (b : ArrayVec ℕ). FindsOverlap z b.items u w) key (subst (λ (s : Sizes). FindsOverlap s j.items u w) sizes o))))
+
 pub loop-steps-init : goal.loop-steps-init
 loop-steps-init g c = record {
   only = g.met.S.Steps.only_same c.args.steps.now;
@@ -30,7 +36,7 @@ loop-steps-init g c = record {
   turns = refl;
   key = record { key = refl; value = refl };
   refuses = λ r. r;
-  apart = λ keys a. a;
+  apart = λ a. a;
   left = omega arith;
   waits = (zero, (refl, refl, refl));
   fits = λ u ps fits. fits;
@@ -54,7 +60,7 @@ pub returns-then-is_some-clause-refuses : goal.returns-then-is_some-clause-refus
 returns-then-is_some-clause-refuses g c = c.loop-steps.invariant.refuses
 
 pub returns-then-is_some-clause-apart : goal.returns-then-is_some-clause-apart
-returns-then-is_some-clause-apart g c = c.loop-steps.invariant.apart
+returns-then-is_some-clause-apart g c none = c.loop-steps.invariant.apart
 
 pub returns-then-is_some-clause-left : goal.returns-then-is_some-clause-left
 returns-then-is_some-clause-left g c =
@@ -148,10 +154,17 @@ pub returns-in-Some-clause-refuses : goal.returns-in-Some-clause-refuses
 returns-in-Some-clause-refuses g c refuses = c.step-stepped.ensures.refuses (c.loop-steps.invariant.refuses refuses)
 
 pub returns-in-Some-clause-apart : goal.returns-in-Some-clause-apart
-returns-in-Some-clause-apart g c keys a =
+returns-in-Some-clause-apart g c none a =
     let l = c.loop-steps in
     let i = l.invariant in
-    c.step-stepped.ensures.apart (still_apart (g.S.Steps.admits c.args.steps.now) (g.S.Steps.admits l.steps) (λ k. (g.met.S.Steps.only_admits c.args.steps.now l.steps k i.only).0) keys) (i.apart keys a)
+    let s = c.args.steps.now in
+    let w = g.S.Steps.view c.step-stepped.new.steps in
+    let at = none_overlaps_at (g.S.Steps.admits s) (g.S.Steps.admits l.steps) (λ k. (g.met.S.Steps.only_admits s l.steps k i.only).0) in
+    let key : key_of l.write.job l.room ≡ key_of c.args.write.now.job c.args.room.now = ap (λ (j : Job). key_of j l.room) i.job ∙ i.key.key in
+    c.step-stepped.ensures.apart
+    (at (g.S.Steps.sizes s) (g.S.Steps.sizes l.steps) (key_of c.args.write.now.job c.args.room.now) (key_of l.write.job l.room) (g.S.Steps.view s) (g.S.Steps.view l.steps) w
+    (g.met.S.Steps.only_sizes s l.steps i.only) key i.same none)
+    (i.apart a)
 
 pub returns-in-Some-clause-left : goal.returns-in-Some-clause-left
 returns-in-Some-clause-left g c =
@@ -192,7 +205,7 @@ loop-steps-preserved g c =
       turns = e.turns ∙ i.turns;
       key = same_then c.args.write.now.job c.args.room.now l.room c.step-stepped.new.room i.key (subst (λ (j : Job). SameKey j l.room c.step-stepped.new.room) i.job e.key);
       refuses = λ refuses. e.refuses (i.refuses refuses);
-      apart = λ keys a. e.apart (still_apart (g.S.Steps.admits c.args.steps.now) (g.S.Steps.admits l.steps) (λ k. (g.met.S.Steps.only_admits c.args.steps.now l.steps k i.only).0) keys) (i.apart keys a);
+      apart = λ a. e.apart (none_overlaps (g.S.Steps.admits l.steps) (g.S.Steps.sizes l.steps) (key_of l.write.job l.room).items v w none) (i.apart a);
       left = omega (arith, left, less);
       waits = (
         suc i.waits.0,

@@ -4,7 +4,6 @@ use Rattle.art_call.proofs.driver.step_of_write.Given as goal
 use Rattle.art_call.specs.AsAsked.{WriteWaits}
 use Rattle.art_change.specs.Tries.{SameKey}
 use Rattle.art_change.specs.Writes.{Fits, IsApart, WillRefuse, steps_left}
-use Rattle.art_step.specs.Histories.{AreApart}
 use Rattle.art_epoch.specs.Limbo.{places_of}
 use Rattle.art_epoch.specs.declared.limbo.Place.{Place}
 use Rattle.art_step.specs.declared.views.View.{View}
@@ -17,7 +16,7 @@ invariant-loop-steps g l = record {
   turns : l.write.turns ≡ l.fn.write.turns;
   key : SameKey l.fn.write.job l.fn.room l.room;
   refuses : WillRefuse l.fn.write → WillRefuse l.write;
-  apart : AreApart (g.S.Steps.admits l.fn.steps) → IsApart l.fn.write → IsApart l.write;
+  apart : IsApart l.fn.write → IsApart l.write;
   left : steps_left l.write l.room (places_of l.limbo) ≤ steps_left l.fn.write l.fn.room (places_of l.fn.limbo);
   waits : (times : ℕ) × WriteWaits times (g.S.Steps.sizes l.fn.steps) (g.S.Steps.view l.fn.steps) l.fn.write l.fn.room (places_of l.fn.limbo)
       l.write l.room (places_of l.limbo);

@@ -1,4 +1,4 @@
-use Rattle.std.proofs.Common.{◌≡◌, ◌∙◌, ℕ, true, Option, Some, refl, sym, subst, arith}
+use Rattle.std.proofs.Common.{◌≡◌, ◌∙◌, ℕ, true, Option, Some, inl, refl, sym, subst, arith}
 use Rattle.std.specs.Option.{is_some}
 use Rattle.std.specs.Prelude.{None}
 use Rattle.arrayvec.specs.ArrayVec.{ArrayVec}
@@ -94,7 +94,7 @@ loop-steps-preserved g c =
           let two = subst (λ (j : JobOf). SameKey j c.hurry.new.room c.step.new.room) (h.same.job ∙ i.job) e.key in
           record { key = two.key ∙ (one.key ∙ i.key.key); value = two.value ∙ (one.value ∙ i.key.value) };
       refuses = λ r. e.refuses (h.same.refuses (i.refuses r));
-      apart = λ keys a. e.apart (still_apart (g.S.Steps.admits s) (g.S.Steps.admits c.hurry.new.steps) (λ k. (g.met.S.Steps.only_admits s c.hurry.new.steps k only).0) keys) (h.same.apart (i.apart keys a));
+      apart = λ keys a. e.apart (inl (still_apart (g.S.Steps.admits s) (g.S.Steps.admits c.hurry.new.steps) (λ k. (g.met.S.Steps.only_admits s c.hurry.new.steps k only).0) keys)) (h.same.apart (i.apart keys a));
       left = let one = e.one in let less = e.left in let before = i.left in let few = h.left in omega (arith, one, less, before, few);
       fits = λ u ps fits. subst (λ (z : Sizes). Fits z u ps c.step.new.write c.step.new.room (places_of c.step.new.limbo) w) sizes
           (e.fits u ps (subst (λ (z : Sizes). Fits z u ps c.hurry.new.self c.hurry.new.room (places_of c.hurry.new.limbo) (g.S.Steps.view c.hurry.new.steps)) (sym (g.met.S.Steps.only_sizes l.steps c.hurry.new.steps h.only))

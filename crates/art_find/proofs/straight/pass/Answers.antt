@@ -37,8 +37,8 @@ check-requires-clause-inside g c =
     let b = c.requires.goes in
     (allowed (g.S.Steps.sizes c.args.steps.now) b.0 (get_done b.0) c.args.child.depth (Child c.args.child.stamp c.args.child.link) b.1.1 (g.S.Steps.view c.args.steps.now) b.1.2.get.fits).0
 
-pub begin_anew-requires : goal.begin_anew-requires
-begin_anew-requires g c =
+pub restart-requires : goal.restart-requires
+restart-requires g c =
     let few = c.requires.goes.1.2.few in
     omega (arith, c.requires.left, few)
 
@@ -52,7 +52,7 @@ pub returns-in-Err-clause-only : goal.returns-in-Err-clause-only
 returns-in-Err-clause-only g c = c.check.ensures.only
 
 pub returns-in-Err-clause-left : goal.returns-in-Err-clause-left
-returns-in-Err-clause-left g c = omega (arith, c.requires.left, c.begin_anew.ensures.left)
+returns-in-Err-clause-left g c = omega (arith, c.requires.left, c.restart.ensures.left)
 
 pub returns-in-Err-clause-goes : goal.returns-in-Err-clause-goes
 returns-in-Err-clause-goes g c = λ k turns u before.
@@ -63,7 +63,7 @@ returns-in-Err-clause-goes g c = λ k turns u before.
     let x = c.args.child in
     let row = subst (λ (r : Result (Unit {0}) Changed). check.Outcome z v w x.stamp None r) c.in-Err.is c.check.ensures.row in
     let z' = g.S.Steps.sizes c.check.new.self in
-    subst (λ (r : Option Below). GetGoes z' k turns u w (come_to at_below r c.begin_anew.new.descent) c.begin_anew.new.tally) (sym c.begin_anew.ensures.none)
+    subst (λ (r : Option Below). GetGoes z' k turns u w (come_to at_below r c.restart.new.descent) c.restart.new.tally) (sym c.restart.ensures.none)
     (went_anew z z' (g.met.S.Steps.only_sizes c.args.steps.now c.check.new.self c.check.ensures.only) k turns u v w
-    (at_child x) c.begin_anew.new.descent c.args.tally.now c.begin_anew.new.tally (Check x.stamp) (Checked (Err e)) before refl row (omega (arith, c.begin_anew.ensures.left, c.requires.left)) refl c.begin_anew.ensures.restarts c.begin_anew.ensures.start
+    (at_child x) c.restart.new.descent c.args.tally.now c.restart.new.tally (Check x.stamp) (Checked (Err e)) before refl row (omega (arith, c.restart.ensures.left, c.requires.left)) refl c.restart.ensures.restarts c.restart.ensures.start
     (reads_on u v w (failed_rest v w x.stamp e.found row.3) before.get.fits.0))

@@ -58,7 +58,7 @@ read-word-requires-clause-may g c =
     let b = l.invariant.going in
     let k = c.args.key.now in
     let seen = c.in-Prefix.seen in
-    let at : Stage = Prefix seen c.in-Prefix.number c.in-Prefix.field-2 in
+    let at : Stage = Prefix seen c.in-Prefix.number c.in-Prefix.before in
     let fits = subst (λ (s : Stage). StageFits z k (get_done k) l.descent.depth s b.1 v) c.in-Prefix.is b.2.get.fits in
     subst (λ (i : ℕ). read.May v seen.stamp (2 + i)) (sym c.from.ensures) ((allowed z k (get_done k) l.descent.depth at b.1 v fits).1)
 

@@ -20,8 +20,8 @@ begin-requires-clause-may g c =
     let b = c.requires.goes in
     (allowed (g.S.Steps.sizes c.args.steps.now) b.0 (get_done b.0) c.args.descent.now.depth Start b.1.1 (g.S.Steps.view c.args.steps.now) b.1.2.get.fits).1
 
-pub begin_anew-requires : goal.begin_anew-requires
-begin_anew-requires g c =
+pub restart-requires : goal.restart-requires
+restart-requires g c =
     let few = c.requires.goes.1.2.few in
     omega (arith, c.requires.left, few)
 
@@ -47,7 +47,7 @@ pub returns-in-Err-clause-only : goal.returns-in-Err-clause-only
 returns-in-Err-clause-only g c = c.begin.ensures.only
 
 pub returns-in-Err-clause-left : goal.returns-in-Err-clause-left
-returns-in-Err-clause-left g c = omega (arith, c.requires.left, c.begin_anew.ensures.left)
+returns-in-Err-clause-left g c = omega (arith, c.requires.left, c.restart.ensures.left)
 
 pub returns-in-Err-clause-goes : goal.returns-in-Err-clause-goes
 returns-in-Err-clause-goes g c = λ k turns u before.
@@ -58,7 +58,7 @@ returns-in-Err-clause-goes g c = λ k turns u before.
     let depth = c.args.descent.now.depth in
     let row = subst (λ (r : Result Stamp Locked). begin.Outcome z v w cell.Anchor r) c.in-Err.is c.begin.ensures.row in
     let z' = g.S.Steps.sizes c.begin.new.self in
-    subst (λ (r : Option Stamp). GetGoes z' k turns u w (come_to (λ (x : Stamp). at_stage 0 (Anchor x)) r c.begin_anew.new.descent) c.begin_anew.new.tally) (sym c.begin_anew.ensures.none)
+    subst (λ (r : Option Stamp). GetGoes z' k turns u w (come_to (λ (x : Stamp). at_stage 0 (Anchor x)) r c.restart.new.descent) c.restart.new.tally) (sym c.restart.ensures.none)
     (went_anew z z' (g.met.S.Steps.only_sizes c.args.steps.now c.begin.new.self c.begin.ensures.only) k turns u v w
-    (at_stage depth Start) c.begin_anew.new.descent c.args.tally.now c.begin_anew.new.tally (Begin cell.Anchor) (Begun (Err e)) before refl row (omega (arith, c.begin_anew.ensures.left, c.requires.left)) refl c.begin_anew.ensures.restarts c.begin_anew.ensures.start
+    (at_stage depth Start) c.restart.new.descent c.args.tally.now c.restart.new.tally (Begin cell.Anchor) (Begun (Err e)) before refl row (omega (arith, c.restart.ensures.left, c.requires.left)) refl c.restart.ensures.restarts c.restart.ensures.start
     (reads_on u v w (begun_rest z v w cell.Anchor e.found row.2) before.get.fits))

@@ -37,7 +37,7 @@ returns-in-Err-clause-goes g c = λ k turns u before.
     let e = c.in-Err.field-0 in
     let row = subst (λ (r : Result Stamp Locked). begin.Outcome z v w (cell.Node n) r) c.in-Err.is c.begin.ensures.row in
     let z' = g.S.Steps.sizes c.begin.new.self in
-    subst (λ (r : Option Stamp). GetGoes z' k turns u w (come_to (λ (y : Stamp). at_stage b.depth (Both b.above y n)) r c.begin_anew.new.descent) c.begin_anew.new.tally) (sym c.begin_anew.ensures.none)
+    subst (λ (r : Option Stamp). GetGoes z' k turns u w (come_to (λ (y : Stamp). at_stage b.depth (Both b.above y n)) r c.restart.new.descent) c.restart.new.tally) (sym c.restart.ensures.none)
     (went_anew z z' (g.met.S.Steps.only_sizes c.args.steps.now c.begin.new.self c.begin.ensures.only) k turns u v w
-    (at_node b n) c.begin_anew.new.descent c.args.tally.now c.begin_anew.new.tally (Begin (cell.Node n)) (Begun (Err e)) before refl row (omega (arith, c.begin_anew.ensures.left, c.requires.left)) refl c.begin_anew.ensures.restarts c.begin_anew.ensures.start
+    (at_node b n) c.restart.new.descent c.args.tally.now c.restart.new.tally (Begin (cell.Node n)) (Begun (Err e)) before refl row (omega (arith, c.restart.ensures.left, c.requires.left)) refl c.restart.ensures.restarts c.restart.ensures.start
     (reads_on u v w (begun_rest z v w (cell.Node n) e.found row.2) before.get.fits.0))

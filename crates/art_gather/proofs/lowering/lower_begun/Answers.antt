@@ -7,8 +7,8 @@ use Rattle.art_gather.specs.declared.lowering.Lowering.TheVariants.{Named}
 use Rattle.art_gather.proofs.lowering.lower_begun.Goals as goal
 
 pub returns-in-Ok-clause-fits : goal.returns-in-Ok-clause-fits
-returns-in-Ok-clause-fits c z k t m n desk deed u v w asked fits is row =
+returns-in-Ok-clause-fits c z k t m n read_set deed u v w asked fits is row =
     let x = c.in-Ok.stamp in
     let told : c.args.answer ≡ Begun (Ok x) = c.in-Begun.is ∙ ap Begun c.in-Ok.is in
-    subst (λ (reads : List (Option ℕ)). Fits z k t n (Named x) desk reads u w) (sym c.clear.ensures)
-    (begun_told z k t m n desk c.args.lower.now deed asked c.args.answer x u v w fits is told row)
+    subst (λ (reads : List (Option ℕ)). Fits z k t n (Named x) read_set reads u w) (sym c.clear.ensures)
+    (begun_told z k t m n read_set c.args.lower.now deed asked c.args.answer x u v w fits is told row)

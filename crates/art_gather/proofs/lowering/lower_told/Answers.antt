@@ -6,7 +6,7 @@ use Rattle.art_find.proofs.Keeping.{cell_fits}
 use Rattle.art_step.specs.Steps.Read.{Outcome as ReadOutcome}
 
 pub returns-clause-fits : goal.returns-clause-fits
-returns-clause-fits c z k t n desk deed u v w asked fits is row =
+returns-clause-fits c z k t n read_set deed u v w asked fits is row =
     let x = c.args.stamp in
     let i = c.args.rereading.place in
     let reading = fits.stage.4 in
@@ -16,10 +16,10 @@ returns-clause-fits c z k t n desk deed u v w asked fits is row =
     let before = cell_fits x.cell in
     let more = reading.more in
     let steps = c.told.ensures.steps in
-    c.lower_read_on.ensures.fits z k t n desk c.told.new.reads u w
-    (lower_on z k t n desk u v w x i c.found.result word fits.stage.0)
-    (lower_below z k t n desk u v w x i c.found.result word c.args.lower.now c.told.new.reads now.kept fits.stage.1)
-    (lower_leads z k t n desk u v w x i c.found.result word fits.stage.2)
+    c.lower_read_on.ensures.fits z k t n read_set c.told.new.reads u w
+    (lower_on z k t n read_set u v w x i c.found.result word fits.stage.0)
+    (lower_below z k t n read_set u v w x i c.found.result word c.args.lower.now c.told.new.reads now.kept fits.stage.1)
+    (lower_leads z k t n read_set u v w x i c.found.result word fits.stage.2)
     (read_left z u v w x i c.found.result (266 - i + 3) (266 - c.told.new.self.place + 3) 535 word (omega (arith, before, more, steps)) (record { failures = fits.failures; steps = fits.steps }))
     fits.stage.3
     now

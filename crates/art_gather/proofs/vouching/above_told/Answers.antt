@@ -5,14 +5,14 @@ use Rattle.art_gather.proofs.Vouches.{above_on, is_above, read_left, read_told}
 use Rattle.art_find.proofs.Keeping.{cell_fits}
 use Rattle.art_gather.specs.Vouching.{above_reads}
 use Rattle.art_gather.proofs.vouching.above_told.Goals as goal
-use Rattle.art_find.specs.Desks.{above_of}
+use Rattle.art_find.specs.ReadSets.{above_of}
 use Rattle.art_find.specs.Rereadings.{RereadingFits}
 use Rattle.art_find.specs.declared.findings.Above.{Above}
 use Rattle.art_step.specs.Steps.Read.{Outcome as ReadOutcome}
 
 pub returns-clause-fits : goal.returns-clause-fits
 returns-clause-fits c z k deed u v w asked fits is row =
-    let t = c.args.stand.now in
+    let t = c.args.position.now in
     let both = c.args.both in
     let over = fits.stage.1 in
     let at = is_above both t over.above over.is in
@@ -27,7 +27,7 @@ returns-clause-fits c z k deed u v w asked fits is row =
     let more = over.more in
     let steps = c.reread_above.ensures.steps in
     c.above_read_on.ensures.fits z k u w
-    (above_on z k t c.args.desk.now c.reread_above.new.self u v w x c.args.rereading.place c.found.result word fits.stage.0 over.above at c.reread_above.ensures.node now.kept)
+    (above_on z k t c.args.read_set.now c.reread_above.new.self u v w x c.args.rereading.place c.found.result word fits.stage.0 over.above at c.reread_above.ensures.node now.kept)
     (read_left z u v w x i c.found.result (266 - i + 267) (266 - c.reread_above.new.rereading.place + 267) 532 word (omega (arith, before, more, steps)) (record { failures = fits.failures; steps = fits.steps }))
     (over.is ∙ ap (λ (a : Above). Some a) one)
     (subst (λ (a : Above). RereadingFits z w a.stamp c.reread_above.new.rereading (above_of c.reread_above.new.self)) one now)

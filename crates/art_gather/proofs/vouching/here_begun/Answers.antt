@@ -6,5 +6,5 @@ use Rattle.art_gather.proofs.vouching.here_begun.Goals as goal
 pub returns-clause-fits : goal.returns-clause-fits
 returns-clause-fits c z k u v vouching left knows =
     let begins = c.new.ensures.begins in
-    c.here_read_on.ensures.fits z k c.args.desk.now u v vouching (left_less u v 267 (266 - c.new.result.place + 2) 532 (omega (arith, begins)) left) knows
-    (here_begins z k c.args.stand.now c.args.desk.now u v vouching c.new.result c.node.result.now c.node.ensures (c.new.ensures.fits z v c.args.stand.now.stamp))
+    c.here_read_on.ensures.fits z k c.args.read_set.now u v vouching (left_less u v 267 (266 - c.new.result.place + 2) 532 (omega (arith, begins)) left) knows
+    (here_begins z k c.args.position.now c.args.read_set.now u v vouching c.new.result c.node.result.now c.node.ensures (c.new.ensures.fits z v c.args.position.now.stamp))

@@ -13,8 +13,8 @@ pub read_on_node-requires-clause-fits : goal.read_on_node-requires-clause-fits
 read_on_node-requires-clause-fits g c =
     let z = g.S.Steps.sizes c.args.steps.now in
     let q = c.requires.fits in
-    let f : Fits z q.0 c.args.both c.args.stand.now (Here c.in-Here.rereading) c.args.desk.now q.1 (g.S.Steps.view c.args.steps.now) =
-    subst (λ (m : Vouching). Fits z q.0 c.args.both c.args.stand.now m c.args.desk.now q.1 (g.S.Steps.view c.args.steps.now)) c.in-Here.is q.2 in
+    let f : Fits z q.0 c.args.both c.args.position.now (Here c.in-Here.rereading) c.args.read_set.now q.1 (g.S.Steps.view c.args.steps.now) =
+    subst (λ (m : Vouching). Fits z q.0 c.args.both c.args.position.now m c.args.read_set.now q.1 (g.S.Steps.view c.args.steps.now)) c.in-Here.is q.2 in
     f.stage.2.fits
 
 pub returns-clause-fits : goal.returns-clause-fits
@@ -22,19 +22,19 @@ returns-clause-fits g c k u fits =
     let z = g.S.Steps.sizes c.args.steps.now in
     let v = g.S.Steps.view c.args.steps.now in
     let w = g.S.Steps.view c.read_on_node.new.steps in
-    let t = c.args.stand.now in
-    let desk = c.args.desk.now in
-    let desk' = c.read_on_node.new.self in
+    let t = c.args.position.now in
+    let read_set = c.args.read_set.now in
+    let read_set' = c.read_on_node.new.self in
     let r = c.in-Here.rereading in
     let r' = c.read_on_node.new.rereading in
     let made = c.args.left.now - c.read_on_node.new.left in
-    let f : Fits z k c.args.both t (Here r) desk u v = subst (λ (m : Vouching). Fits z k c.args.both t m desk u v) c.in-Here.is fits in
+    let f : Fits z k c.args.both t (Here r) read_set u v = subst (λ (m : Vouching). Fits z k c.args.both t m read_set u v) c.in-Here.is fits in
     let done = c.read_on_node.ensures.read in
     let more = f.stage.2.more in
     let fit = cell_fits t.stamp.cell in
     let few = done.few (omega (arith, more, fit)) in
     let further = done.further in
-    c.here_read_on.ensures.fits z k desk' u w
-    (here_after z k t desk desk' u v w made done.only f.stage.0 c.read_on_node.ensures.above done.fits.kept)
+    c.here_read_on.ensures.fits z k read_set' u w
+    (here_after z k t read_set read_set' u v w made done.only f.stage.0 c.read_on_node.ensures.above done.fits.kept)
     (left_after u v w made (266 - r.place + 2) (266 - r'.place + 2) 532 done.only (omega (arith, further, few)) (record { failures = f.failures; steps = f.steps }))
     (λ a at. subst (λ (reads : List (Option ℕ)). AreKnown reads 1 (size_of a.stamp.cell)) (sym c.read_on_node.ensures.above) (f.stage.1 a at)) done.fits

@@ -26,8 +26,8 @@ pub returns-in-Err : goal.returns-in-Err
 returns-in-Err c = record {
   gone = λ z lo t v w x asked found.
       let m = c.args.look.now in
-      let n = c.begin_anew.new.look in
-      let e = c.begin_anew.ensures in
+      let n = c.restart.new.look in
+      let e = c.restart.ensures in
       let fault = c.in-Err.field-0 in
       let is = ap (λ (s : LookStage). asks s) c.requires.at ∙ asked in
       let row = subst (λ (r : Result (Unit {0}) Changed). check.Outcome z v w x None r) c.in-Err.is found in

@@ -14,10 +14,10 @@ pub returns : goal.returns
 returns c = record {
   gone = λ z v w asked wants row.
       let m = c.args.look.now in
-      let t = c.args.trail.now in
+      let t = c.args.path_buffer.now in
       let lo = c.args.lo.now in
       let e = c.read_at.ensures in
       let is = ap (λ (s : LookStage). asks s) c.requires.at ∙ wants in
-      has_gone z lo v w m c.read_at.new.self t c.read_at.new.trail asked (Word c.args.word) true refl row (asks_look m.stage asked is) c.args.tally.now _ e.going (λ on. e.steps) e.least
+      has_gone z lo v w m c.read_at.new.self t c.read_at.new.path_buffer asked (Word c.args.word) true refl row (asks_look m.stage asked is) c.args.tally.now _ e.going (λ on. e.steps) e.least
       (λ hi u fits. e.fits z hi u v w asked fits is (row (deed_at lo hi t m.stage))) (omega (arith, c.requires.turn.some)) refl;
 }

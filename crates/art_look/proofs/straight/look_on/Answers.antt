@@ -1,4 +1,4 @@
--- A version word more, whatever the lower end and the trail are.
+-- A version word more, whatever the lower end and the path buffer are.
 use Rattle.std.proofs.Common.{sym, subst, arith}
 use Rattle.art_look.specs.Driven.{LookFits}
 use Rattle.art_look.proofs.Driven.{stepped}
@@ -7,7 +7,7 @@ use Rattle.art_look.proofs.straight.look_on.Goals as goal
 
 pub loop-tally-smaller-in-Start : goal.loop-tally-smaller-in-Start
 loop-tally-smaller-in-Start g c =
-    let left = (c.begin_or_check.ensures.gone c.args.lo.now c.loop-tally.trail).left in
+    let left = (c.begin_or_check.ensures.gone c.args.lo.now c.loop-tally.path_buffer).left in
     omega (arith, left)
 
 pub loop-tally-preserved-in-Start : goal.loop-tally-preserved-in-Start
@@ -19,7 +19,7 @@ loop-tally-preserved-in-Start g c =
     let v = g.S.Steps.view l.steps in
     let w = g.S.Steps.view n.steps in
     let lo = c.args.lo.now in
-    let t = l.trail in
+    let t = l.path_buffer in
     let gone = c.begin_or_check.ensures.gone lo t in
     let more = c.loop-tally-test.true in
     let left = gone.left in

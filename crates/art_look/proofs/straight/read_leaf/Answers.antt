@@ -9,19 +9,19 @@ use Rattle.art_look.proofs.straight.read_leaf.Goals as goal
 pub read_leaf-word-requires : goal.read_leaf-word-requires
 read_leaf-word-requires g c =
     let v = g.S.Steps.view c.args.steps.now in
-    let may = may_go (g.S.Steps.sizes c.args.steps.now) c.args.lo.now v c.args.look.now c.args.trail.now c.args.tally.now c.requires.looks (Value c.in-Value.stamp c.in-Value.leaf) c.in-Value.is (ReadLeaf c.in-Value.stamp c.in-Value.leaf 0) refl in
+    let may = may_go (g.S.Steps.sizes c.args.steps.now) c.args.lo.now v c.args.look.now c.args.path_buffer.now c.args.tally.now c.requires.looks (Value c.in-Value.stamp c.in-Value.leaf) c.in-Value.is (ReadLeaf c.in-Value.stamp c.in-Value.leaf 0) refl in
     record { inside = may.0; may = may.1 }
 
 pub read_leaf-word-requires-in-Length : goal.read_leaf-word-requires-in-Length
 read_leaf-word-requires-in-Length g c =
     let v = g.S.Steps.view c.args.steps.now in
-    let may = may_go (g.S.Steps.sizes c.args.steps.now) c.args.lo.now v c.args.look.now c.args.trail.now c.args.tally.now c.requires.looks (Length c.in-Length.stamp c.in-Length.leaf c.in-Length.value) c.in-Length.is (ReadLeaf c.in-Length.stamp c.in-Length.leaf 1) refl in
+    let may = may_go (g.S.Steps.sizes c.args.steps.now) c.args.lo.now v c.args.look.now c.args.path_buffer.now c.args.tally.now c.requires.looks (Length c.in-Length.stamp c.in-Length.leaf c.in-Length.value) c.in-Length.is (ReadLeaf c.in-Length.stamp c.in-Length.leaf 1) refl in
     record { inside = may.0; may = may.1 }
 
 pub read_leaf-word-requires-in-Bytes : goal.read_leaf-word-requires-in-Bytes
 read_leaf-word-requires-in-Bytes g c =
     let v = g.S.Steps.view c.args.steps.now in
-    let may = may_go (g.S.Steps.sizes c.args.steps.now) c.args.lo.now v c.args.look.now c.args.trail.now c.args.tally.now c.requires.looks (Bytes c.in-Bytes.seen c.in-Bytes.number) c.in-Bytes.is (ReadLeaf c.in-Bytes.seen.stamp c.in-Bytes.seen.leaf (2 + c.in-Bytes.number)) refl in
+    let may = may_go (g.S.Steps.sizes c.args.steps.now) c.args.lo.now v c.args.look.now c.args.path_buffer.now c.args.tally.now c.requires.looks (Bytes c.in-Bytes.seen c.in-Bytes.number) c.in-Bytes.is (ReadLeaf c.in-Bytes.seen.stamp c.in-Bytes.seen.leaf (2 + c.in-Bytes.number)) refl in
     record { inside = may.0; may = subst (λ (i : ℕ). read.MayLeaf (g.S.Steps.sizes c.args.steps.now) v c.in-Bytes.seen.stamp c.in-Bytes.seen.leaf (2 + i)) (sym c.from.ensures) may.1 }
 
 pub returns-in-Value-clause-gone : goal.returns-in-Value-clause-gone

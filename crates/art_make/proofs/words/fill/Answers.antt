@@ -8,7 +8,7 @@ use Rattle.art_make.proofs.Allowed.{may_fill}
 use Rattle.art_make.proofs.Locking.{fill_on}
 use Rattle.art_make.proofs.Told.{fill_fills, fill_so}
 use Rattle.art_make.proofs.Written.{more_writes, one_write}
-use Rattle.art_make.specs.Making.{IsLocking, at_fill}
+use Rattle.art_make.specs.Apply.{IsLocking, at_fill}
 use Rattle.art_plan.specs.Changes.{filled_at, targets}
 use Rattle.art_plan.specs.Whole.{filled_ends, made_at, made_word}
 use Rattle.art_step.specs.Steps.Write as write

@@ -1,7 +1,7 @@
 -- So far this new node is filled.
 use Rattle.std.proofs.Common.{◌≡◌, ◌-◌, []}
-use Rattle.art_make.specs.Making.{Fits, IsLocking, OnlyWrites, at_fill}
-use Rattle.art_make.specs.declared.making.Making.TheVariants.{Filling}
+use Rattle.art_make.specs.Apply.{Fits, IsLocking, OnlyWrites, at_fill}
+use Rattle.art_make.specs.declared.apply.Apply.TheVariants.{Filling}
 use Rattle.art_plan.specs.Changes.{targets}
 use Rattle.art_step.specs.declared.views.Sizes.{Sizes}
 use Rattle.art_step.specs.declared.views.View.{View}

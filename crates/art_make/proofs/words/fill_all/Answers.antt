@@ -2,8 +2,8 @@
 use Rattle.std.proofs.Common.{◌≡◌, Bool, true, false, [], refl, sym, ap, ◌∙◌, subst}
 use Rattle.std.specs.Prelude.{None}
 use Rattle.art_make.proofs.Written.{both_filled, copy_is_next}
-use Rattle.art_make.specs.Making.{Fits, IsLocking, at_fill, claim_of}
-use Rattle.art_make.specs.declared.making.Making.TheVariants.{Filling}
+use Rattle.art_make.specs.Apply.{Fits, IsLocking, at_fill, claim_of}
+use Rattle.art_make.specs.declared.apply.Apply.TheVariants.{Filling}
 use Rattle.art_plan.specs.Changes.{filled_at, targets}
 use Rattle.art_plan.specs.Whole.{filled_ends, made_at}
 use Rattle.art_step.specs.declared.views.Sizes.{Sizes}

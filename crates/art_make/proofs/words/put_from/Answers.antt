@@ -7,7 +7,7 @@ use Rattle.art_make.proofs.Allowed.{may_write}
 use Rattle.art_make.proofs.Locking.{write_on}
 use Rattle.art_make.proofs.Told.{put_target}
 use Rattle.art_make.proofs.Written.{more_writes, one_write}
-use Rattle.art_make.specs.Making.{IsLocking}
+use Rattle.art_make.specs.Apply.{IsLocking}
 use Rattle.art_plan.specs.Changes.{put_at, target_at, targets}
 use Rattle.art_plan.specs.Whole.{filled_ends}
 use Rattle.art_plan.specs.declared.changes.Put.{Put}

@@ -1,6 +1,6 @@
 -- So far the words are put.
 use Rattle.std.proofs.Common.{◌≡◌, ◌-◌, take}
-use Rattle.art_make.specs.Making.{IsLocking, OnlyWrites}
+use Rattle.art_make.specs.Apply.{IsLocking, OnlyWrites}
 use Rattle.art_plan.specs.Changes.{targets}
 use Rattle.art_plan.specs.Whole.{IsWhole, filled_ends}
 use Rattle.art_step.specs.declared.views.Sizes.{Sizes}

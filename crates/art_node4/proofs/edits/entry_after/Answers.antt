@@ -15,8 +15,8 @@ returns-in-Add-2 c =
     let can = subst (λ (e : Edit). CanEdit k e xs) c.in-Add-2.is c.requires.edit.can in
     subst (λ (e : Edit). c.entry_at.result ≡ entry_or_none (edited e xs) c.args.position) (sym c.in-Add-2.is) (
     c.entry_at.ensures
-    ∙ sym (get_or-insert_above xs c.in-Add-2.at c.in-Add-2.field-1 no_entry (c.args.position - 1) (omega arith) can.0)
-    ∙ ap (λ (n : ℕ). entry_or_none (insert xs c.in-Add-2.at c.in-Add-2.field-1) n) (omega arith)
+    ∙ sym (get_or-insert_above xs c.in-Add-2.at c.in-Add-2.entry no_entry (c.args.position - 1) (omega arith) can.0)
+    ∙ ap (λ (n : ℕ). entry_or_none (insert xs c.in-Add-2.at c.in-Add-2.entry) n) (omega arith)
     )
 
 pub returns-in-Remove : goal.returns-in-Remove

@@ -6,7 +6,7 @@ use Rattle.art_node4.proofs.edits.key_word_after.Goals as goal
 
 pub returns-in-Add : goal.returns-in-Add
 returns-in-Add c =
-    added_keys c.args.sorted (word_of c.args.body.now) c.args.edit c.in-Add.field-0 c.in-Add.field-1 c.in-Add.is c.requires.edit.body.meaning c.requires.edit.can c.args.place (omega arith) c.requires.high
+    added_keys c.args.sorted (word_of c.args.body.now) c.args.edit c.in-Add.at c.in-Add.entry c.in-Add.is c.requires.edit.body.meaning c.requires.edit.can c.args.place (omega arith) c.requires.high
     c.saturating_sub-at.result (omega arith) c.put_in.result (omega arith) _ (record {
       before = c.put_in.ensures.before;
       here = c.put_in.ensures.here;

@@ -2,7 +2,7 @@ use Rattle.std.proofs.Common.{arith}
 use Rattle.std.proofs.lemmas.Option.{slice_get_within}
 use Rattle.art_runs.proofs.Alone.{goes_alone}
 use Rattle.art_runs.proofs.Histories.{one_history, typed_history}
-use Rattle.art_runs.proofs.Turns.{carried_on}
+use Rattle.art_runs.proofs.CarriedOn.{carried_on}
 use Rattle.art_runs.proofs.runs.run.Goals as goal
 
 pub returns-clause-history : goal.returns-clause-history

@@ -7,7 +7,7 @@ returns-in-Insert g c = λ z u is. record {
   given = 1000;
   turns = 1000;
   began = u;
-  calling = c.insert.ensures z u is;
+  calling = c.insert.ensures.calling z u is;
 }
 
 pub returns-in-Remove : goal.returns-in-Remove
@@ -16,5 +16,5 @@ returns-in-Remove g c = λ z u is. record {
   given = 1000;
   turns = 1000;
   began = u;
-  calling = c.remove.ensures z u is;
+  calling = c.remove.ensures.calling z u is;
 }

@@ -5,7 +5,7 @@ use Rattle.art_seek.proofs.driver.finish.Goals as goal
 pub loop-seek-init : goal.loop-seek-init
 loop-seek-init g c = record {
   only = g.met.S.Steps.only_same c.args.steps.now;
-  goes = goes_none (g.S.Steps.sizes c.args.steps.now) c.args.key.now c.args.hi.now c.args.seek.now c.args.trail.now (g.S.Steps.view c.args.steps.now);
+  goes = goes_none (g.S.Steps.sizes c.args.steps.now) c.args.key.now c.args.hi.now c.args.seek.now c.args.path_buffer.now (g.S.Steps.view c.args.steps.now);
 }
 
 pub hurry-requires-clause-fits : goal.hurry-requires-clause-fits
@@ -14,7 +14,7 @@ hurry-requires-clause-fits g c =
     let l = c.loop-seek in
     let hi = c.args.hi.now in (
       hi,
-      still_on (g.S.Steps.sizes s) (g.S.Steps.sizes l.steps) (g.met.S.Steps.only_sizes s l.steps l.invariant.only) c.args.key.now hi c.args.seek.now c.args.trail.now (g.S.Steps.view s) l.seek l.trail (g.S.Steps.view l.steps)
+      still_on (g.S.Steps.sizes s) (g.S.Steps.sizes l.steps) (g.met.S.Steps.only_sizes s l.steps l.invariant.only) c.args.key.now hi c.args.seek.now c.args.path_buffer.now (g.S.Steps.view s) l.seek l.path_buffer (g.S.Steps.view l.steps)
           l.invariant.goes c.requires.fits,
     )
 
@@ -25,8 +25,8 @@ returns-then-not-hurry g c =
     let h = c.hurry.new in
     let hi = c.args.hi.now in
     let k = c.args.key.now in
-    let goes = goes_then (g.S.Steps.sizes s) (g.S.Steps.sizes l.steps) (g.met.S.Steps.only_sizes s l.steps l.invariant.only) k hi c.args.seek.now c.args.trail.now (g.S.Steps.view s) l.seek l.trail (g.S.Steps.view l.steps)
-    l.invariant.goes h.self h.trail (g.S.Steps.view h.steps) (c.hurry.ensures.goes hi) in
+    let goes = goes_then (g.S.Steps.sizes s) (g.S.Steps.sizes l.steps) (g.met.S.Steps.only_sizes s l.steps l.invariant.only) k hi c.args.seek.now c.args.path_buffer.now (g.S.Steps.view s) l.seek l.path_buffer (g.S.Steps.view l.steps)
+    l.invariant.goes h.self h.path_buffer (g.S.Steps.view h.steps) (c.hurry.ensures.goes hi) in
     record {
       only = g.met.S.Steps.only_then s l.steps h.steps l.invariant.only c.hurry.ensures.only;
       aim = goes.aim;
@@ -52,9 +52,9 @@ walk_by-requires-clause-fits g c =
     let h = c.hurry.new in
     let hi = c.args.hi.now in
     let k = c.args.key.now in
-    still_on (g.S.Steps.sizes l.steps) (g.S.Steps.sizes h.steps) (g.met.S.Steps.only_sizes l.steps h.steps c.hurry.ensures.only) k hi l.seek l.trail (g.S.Steps.view l.steps) h.self h.trail (g.S.Steps.view h.steps)
+    still_on (g.S.Steps.sizes l.steps) (g.S.Steps.sizes h.steps) (g.met.S.Steps.only_sizes l.steps h.steps c.hurry.ensures.only) k hi l.seek l.path_buffer (g.S.Steps.view l.steps) h.self h.path_buffer (g.S.Steps.view h.steps)
     (c.hurry.ensures.goes hi)
-    (still_on (g.S.Steps.sizes s) (g.S.Steps.sizes l.steps) (g.met.S.Steps.only_sizes s l.steps l.invariant.only) k hi c.args.seek.now c.args.trail.now (g.S.Steps.view s) l.seek l.trail (g.S.Steps.view l.steps)
+    (still_on (g.S.Steps.sizes s) (g.S.Steps.sizes l.steps) (g.met.S.Steps.only_sizes s l.steps l.invariant.only) k hi c.args.seek.now c.args.path_buffer.now (g.S.Steps.view s) l.seek l.path_buffer (g.S.Steps.view l.steps)
     l.invariant.goes c.requires.fits)
 
 pub loop-seek-smaller : goal.loop-seek-smaller
@@ -73,10 +73,10 @@ loop-seek-preserved g c =
     let k = c.args.key.now in
     let v = g.S.Steps.view s in
     let only = g.met.S.Steps.only_then s l.steps h.steps l.invariant.only c.hurry.ensures.only in
-    let goes = goes_then (g.S.Steps.sizes s) (g.S.Steps.sizes l.steps) (g.met.S.Steps.only_sizes s l.steps l.invariant.only) k hi c.args.seek.now c.args.trail.now v l.seek l.trail (g.S.Steps.view l.steps)
-    l.invariant.goes h.self h.trail (g.S.Steps.view h.steps) (c.hurry.ensures.goes hi) in
+    let goes = goes_then (g.S.Steps.sizes s) (g.S.Steps.sizes l.steps) (g.met.S.Steps.only_sizes s l.steps l.invariant.only) k hi c.args.seek.now c.args.path_buffer.now v l.seek l.path_buffer (g.S.Steps.view l.steps)
+    l.invariant.goes h.self h.path_buffer (g.S.Steps.view h.steps) (c.hurry.ensures.goes hi) in
     record {
       only = g.met.S.Steps.only_then s h.steps w.steps only c.walk_by.ensures.only;
-      goes = goes_then (g.S.Steps.sizes s) (g.S.Steps.sizes h.steps) (g.met.S.Steps.only_sizes s h.steps only) k hi c.args.seek.now c.args.trail.now v h.self h.trail (g.S.Steps.view h.steps)
-          goes w.self w.trail (g.S.Steps.view w.steps) c.walk_by.ensures.goes;
+      goes = goes_then (g.S.Steps.sizes s) (g.S.Steps.sizes h.steps) (g.met.S.Steps.only_sizes s h.steps only) k hi c.args.seek.now c.args.path_buffer.now v h.self h.path_buffer (g.S.Steps.view h.steps)
+          goes w.self w.path_buffer (g.S.Steps.view w.steps) c.walk_by.ensures.goes;
     }

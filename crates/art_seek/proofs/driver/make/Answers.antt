@@ -19,7 +19,7 @@ perform-requires-clause-allowed g c =
     let v = g.S.Steps.view c.args.steps.now in
     let k = c.args.key.now in
     let hi = c.args.hi.now in
-    let t = c.args.trail.now in
+    let t = c.args.path_buffer.now in
     let w = c.args.walk.now in
     let x = c.in-Settle.stamp in
     let asked = c.requires.asked (subst IsToSettle (sym c.in-Settle.is) tt) ∙ ap (λ (a : Action). Some a) c.in-Settle.is in
@@ -34,7 +34,7 @@ pub perform-requires-in_default-clause-allowed : goal.perform-requires-in_defaul
 perform-requires-in_default-clause-allowed g c =
     let z = g.S.Steps.sizes c.args.steps.now in
     let v = g.S.Steps.view c.args.steps.now in
-    let so = Settles c.args.walk.now c.args.key.now c.args.trail.now in
+    let so = Settles c.args.walk.now c.args.key.now c.args.path_buffer.now in
     elim c.requires.allowed [
       | inl look ↦ allowed_look z v so c.args.action c.in_default.not-Settle look
       | inr all ↦ all

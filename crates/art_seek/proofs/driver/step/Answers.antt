@@ -17,9 +17,9 @@ returns-clause-one g c =
     let v = g.S.Steps.view c.args.steps.now in
     let w = g.S.Steps.view c.make-answer.new.steps in
     let m = c.args.seek.now in
-    let so = Settles m.walk c.args.key.now c.args.trail.now in
-    let may = subst (λ (o : Option Action). IfSome o (MaySeek z so v)) c.in-Some.is (c.next.ensures.allowed z c.args.key.now c.args.hi.now c.requires.fits.0 v c.args.trail.now c.requires.fits.1) in
-    (seek_adds z so (deed_at m.walk c.args.key.now c.args.hi.now c.args.trail.now) c.make-answer.result v w m.stage m c.in-Some.action (sym c.next.ensures.asks ∙ c.in-Some.is) may (subst (λ (x : Walk). Answers z (telling (deed_at x c.args.key.now c.args.hi.now c.args.trail.now)) c.in-Some.action c.make-answer.result v w) c.walk.ensures c.make-answer.ensures.row)).0
+    let so = Settles m.walk c.args.key.now c.args.path_buffer.now in
+    let may = subst (λ (o : Option Action). IfSome o (MaySeek z so v)) c.in-Some.is (c.next.ensures.allowed z c.args.key.now c.args.hi.now c.requires.fits.0 v c.args.path_buffer.now c.requires.fits.1) in
+    (seek_adds z so (deed_at m.walk c.args.key.now c.args.hi.now c.args.path_buffer.now) c.make-answer.result v w m.stage m c.in-Some.action (sym c.next.ensures.asks ∙ c.in-Some.is) may (subst (λ (x : Walk). Answers z (telling (deed_at x c.args.key.now c.args.hi.now c.args.path_buffer.now)) c.in-Some.action c.make-answer.result v w) c.walk.ensures c.make-answer.ensures.row)).0
 
 pub returns-clause-counted : goal.returns-clause-counted
 returns-clause-counted g c =
@@ -32,8 +32,8 @@ returns-clause-tells g c =
     let v = g.S.Steps.view c.args.steps.now in
     let w = g.S.Steps.view c.make-answer.new.steps in
     let m = c.args.seek.now in
-    let d = deed_at m.walk c.args.key.now c.args.hi.now c.args.trail.now in
-    let so = Settles m.walk c.args.key.now c.args.trail.now in
-    let may = subst (λ (o : Option Action). IfSome o (MaySeek z so v)) c.in-Some.is (c.next.ensures.allowed z c.args.key.now c.args.hi.now c.requires.fits.0 v c.args.trail.now c.requires.fits.1) in
+    let d = deed_at m.walk c.args.key.now c.args.hi.now c.args.path_buffer.now in
+    let so = Settles m.walk c.args.key.now c.args.path_buffer.now in
+    let may = subst (λ (o : Option Action). IfSome o (MaySeek z so v)) c.in-Some.is (c.next.ensures.allowed z c.args.key.now c.args.hi.now c.requires.fits.0 v c.args.path_buffer.now c.requires.fits.1) in
     subst (λ (s : Stepped). SeesEvent v w (told_by s d)) (sym c.kind_of.ensures)
-    (seek_adds z so d c.make-answer.result v w m.stage m c.in-Some.action (sym c.next.ensures.asks ∙ c.in-Some.is) may (subst (λ (x : Walk). Answers z (telling (deed_at x c.args.key.now c.args.hi.now c.args.trail.now)) c.in-Some.action c.make-answer.result v w) c.walk.ensures c.make-answer.ensures.row)).1
+    (seek_adds z so d c.make-answer.result v w m.stage m c.in-Some.action (sym c.next.ensures.asks ∙ c.in-Some.is) may (subst (λ (x : Walk). Answers z (telling (deed_at x c.args.key.now c.args.hi.now c.args.path_buffer.now)) c.in-Some.action c.make-answer.result v w) c.walk.ensures c.make-answer.ensures.row)).1

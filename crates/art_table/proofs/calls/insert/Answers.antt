@@ -3,7 +3,7 @@ use Rattle.art_call.specs.Calls as calls
 use Rattle.art_call.specs.Outcomes.{of_write}
 use Rattle.art_shared.specs.Stepper.{schema_of}
 use Rattle.art_table.proofs.AtOnce.{key_admitted, lent_caller, tuple_ends, write_apart}
-use Rattle.art_table.proofs.Begun.{keys_apart}
+use Rattle.art_typed.proofs.Keys.{keys_apart}
 use Rattle.art_table.proofs.calls.insert.Goals as goal
 use Rattle.art_table.specs.Jobs.{of_inserted, with_result}
 use Rattle.art_table.specs.Tables.{schema_in}

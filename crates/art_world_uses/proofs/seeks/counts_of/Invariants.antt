@@ -11,7 +11,7 @@ invariant-loop-seek g l = record {
   only : g.S.Steps.only l.fn.steps l.steps;
   sizes : g.S.Steps.sizes l.steps ≡ g.S.Steps.sizes l.fn.steps;
   aim : aim_of l.seek.walk ≡ Key;
-  fits : Fits (g.S.Steps.sizes l.fn.steps) l.key End (g.S.Steps.view l.fn.steps) l.seek l.trail (g.S.Steps.view l.steps);
+  fits : Fits (g.S.Steps.sizes l.fn.steps) l.key End (g.S.Steps.view l.fn.steps) l.seek l.path_buffer (g.S.Steps.view l.steps);
 }
 
 abbrev pub decreases-loop-seek : goal.decreases-loop-seek

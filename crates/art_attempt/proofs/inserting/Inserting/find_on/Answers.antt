@@ -22,7 +22,7 @@ descend-on-requires-clause-fits g c =
     let r = c.args.room.now in
     let q = c.requires.fits in
     let f = is_finding z q.0 m r v c.requires.stage q.1 in
-    (present_of r.row, f.early, subst (λ (k : List ℕ). FindingFits z k (present_of r.row) m.finding r.desk f.early v) (sym c.as_slice-key.ensures.value) f.fits)
+    (present_of r.row, f.early, subst (λ (k : List ℕ). FindingFits z k (present_of r.row) m.finding r.read_set f.early v) (sym c.as_slice-key.ensures.value) f.fits)
 
 pub returns-then-not-on-clause-fits : goal.returns-then-not-on-clause-fits
 returns-then-not-on-clause-fits g c = λ u fits.
@@ -32,9 +32,9 @@ returns-then-not-on-clause-fits g c = λ u fits.
     let r = c.args.room.now in
     let n = c.descend-on.new in
     let w = g.S.Steps.view n.steps in
-    let back = subst (λ (k : List ℕ). CameBack z k m.finding r.desk v n.self n.desk w) c.as_slice-key.ensures.value
-    (subst (λ (b : Bool). Descends z c.as_slice-key.result.now b m.finding r.desk v n.self n.desk w) c.if-not-on.true c.descend-on.ensures.descends) in
-    comes_back z u m r v n.self n.desk w c.requires.stage fits back
+    let back = subst (λ (k : List ℕ). CameBack z k m.finding r.read_set v n.self n.read_set w) c.as_slice-key.ensures.value
+    (subst (λ (b : Bool). Descends z c.as_slice-key.result.now b m.finding r.read_set v n.self n.read_set w) c.if-not-on.true c.descend-on.ensures.descends) in
+    comes_back z u m r v n.self n.read_set w c.requires.stage fits back
 
 pub returns-else-not-on-clause-fits : goal.returns-else-not-on-clause-fits
 returns-else-not-on-clause-fits g c = λ u fits.
@@ -44,6 +44,6 @@ returns-else-not-on-clause-fits g c = λ u fits.
     let r = c.args.room.now in
     let n = c.descend-on.new in
     let w = g.S.Steps.view n.steps in
-    let on = subst (λ (k : List ℕ). WentOn z k m.finding r.desk v n.self n.desk w) c.as_slice-key.ensures.value
-    (subst (λ (b : Bool). Descends z c.as_slice-key.result.now b m.finding r.desk v n.self n.desk w) c.if-not-on.false c.descend-on.ensures.descends) in
-    descends_so z u m r v n.self n.desk w c.requires.stage fits on
+    let on = subst (λ (k : List ℕ). WentOn z k m.finding r.read_set v n.self n.read_set w) c.as_slice-key.ensures.value
+    (subst (λ (b : Bool). Descends z c.as_slice-key.result.now b m.finding r.read_set v n.self n.read_set w) c.if-not-on.false c.descend-on.ensures.descends) in
+    descends_so z u m r v n.self n.read_set w c.requires.stage fits on

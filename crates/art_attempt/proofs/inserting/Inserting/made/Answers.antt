@@ -21,5 +21,5 @@ returns-in-Err-clause-fits c z u v room h is =
     let r = c.args.room.now in
     record {
       room = room;
-      stage = subst (λ (e : Entered). EndFits z u m.stand r e v) (sym c.given_up.ensures) (change_given_up z u m r v h c.args.made is c.in-Err.fault c.in-Err.is);
+      stage = subst (λ (e : Entered). EndFits z u m.position r e v) (sym c.given_up.ensures) (change_given_up z u m r v h c.args.made is c.in-Err.fault c.in-Err.is);
     }

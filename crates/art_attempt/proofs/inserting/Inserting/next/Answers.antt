@@ -28,15 +28,15 @@ returns-in-Vouching-clause-going c z u v fits going =
     let stage = subst (λ (s : StageOf). StageFits z u s m r v) c.in-Vouching.is fits.stage in
     c.vouch_next.ensures.going z u v r stage.0 stage.1
 
-pub returns-in-Making-clause-allowed : goal.returns-in-Making-clause-allowed
-returns-in-Making-clause-allowed c z u v fits =
+pub returns-in-Apply-clause-allowed : goal.returns-in-Apply-clause-allowed
+returns-in-Apply-clause-allowed c z u v fits =
     let m = c.args.self.now in
     let r = c.args.room.now in
-    c.make_next.ensures.allowed z u v (deed_at m r) (subst (λ (s : StageOf). StageFits z u s m r v) c.in-Making.is fits.stage).0
+    c.make_next.ensures.allowed z u v (deed_at m r) (subst (λ (s : StageOf). StageFits z u s m r v) c.in-Apply.is fits.stage).0
 
-pub returns-in-Making-clause-going : goal.returns-in-Making-clause-going
-returns-in-Making-clause-going c z u v fits going =
+pub returns-in-Apply-clause-going : goal.returns-in-Apply-clause-going
+returns-in-Apply-clause-going c z u v fits going =
     let m = c.args.self.now in
     let r = c.args.room.now in
-    let stage = subst (λ (s : StageOf). StageFits z u s m r v) c.in-Making.is fits.stage in
+    let stage = subst (λ (s : StageOf). StageFits z u s m r v) c.in-Apply.is fits.stage in
     c.make_next.ensures.going z u v stage.0 stage.1

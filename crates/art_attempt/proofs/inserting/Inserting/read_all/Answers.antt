@@ -24,7 +24,7 @@ read_cells-requires-clause-fits g c =
     let r = c.args.room.now in
     let q = c.requires.fits in
     let h = (is_vouching z q.0 m r v c.requires.stage q.1).0 in
-    (r.row.key.items, h.early, subst (λ (n : Needs). VouchFits z r.row.key.items n.above m.stand m.vouching r.desk h.early v) (sym c.needed-both.ensures) h.fits)
+    (r.row.key.items, h.early, subst (λ (n : Needs). VouchFits z r.row.key.items n.above m.position m.vouching r.read_set h.early v) (sym c.needed-both.ensures) h.fits)
 
 pub returns-clause-fits : goal.returns-clause-fits
 returns-clause-fits g c u fits =
@@ -37,8 +37,8 @@ returns-clause-fits g c u fits =
     let s = is_vouching z u m r v c.requires.stage fits in
     let h = s.0 in
     let next : Inserting = record m { vouching = c.read_cells.new.vouching } in
-    let then : Room = record r { desk = c.read_cells.new.desk } in
-    let after = c.read_cells.ensures.fits k h.early (subst (λ (n : Needs). VouchFits z k n.above m.stand m.vouching r.desk h.early v) (sym c.needed-both.ensures) h.fits) in
+    let then : Room = record r { read_set = c.read_cells.new.read_set } in
+    let after = c.read_cells.ensures.fits k h.early (subst (λ (n : Needs). VouchFits z k n.above m.position m.vouching r.read_set h.early v) (sym c.needed-both.ensures) h.fits) in
     let before = h.later.steps in
     let made = c.read_cells.ensures.made in
     let less = c.read_cells.ensures.less in
@@ -53,7 +53,7 @@ returns-clause-fits g c u fits =
       has = h.has;
       all = h.all;
       comes = h.comes;
-      fits = subst (λ (n : Needs). VouchFits z k n.above m.stand c.read_cells.new.vouching c.read_cells.new.desk h.early w) c.needed-both.ensures after;
+      fits = subst (λ (n : Needs). VouchFits z k n.above m.position c.read_cells.new.vouching c.read_cells.new.read_set h.early w) c.needed-both.ensures after;
     } in
     record {
       room = record { sizes = fits.room.sizes; key = fits.room.key };

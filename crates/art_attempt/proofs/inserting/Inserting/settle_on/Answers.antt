@@ -25,8 +25,8 @@ look-requires g c =
     let r = c.args.room.now in
     let q = c.requires.fits in
     let f = is_finding z q.0 m r v c.in-Finding.is q.1 in
-    let t = c.in-Some.stand in
-    let at = sym c.stand.ensures.at ∙ c.in-Some.is in
+    let t = c.in-Some.position in
+    let at = sym c.position.ensures.at ∙ c.in-Some.is in
     record {
       allowed = may_look z (deed_at m r) v c.check_of.result
           (finding_allowed z q.0 m r v f c.check_of.result (asks_check m.finding t at ∙ ap Some (sym c.check_of.ensures)));
@@ -41,7 +41,7 @@ settled-requires g c =
     let r = c.args.room.now in
     let q = c.requires.fits in
     let f = is_finding z q.0 m r v c.in-Finding.is q.1 in
-    let at = sym c.stand.ensures.at ∙ c.in-Some.is in
+    let at = sym c.position.ensures.at ∙ c.in-Some.is in
     let row = subst (λ (a : Action). Answers z (telling (deed_at m r)) a c.in-Some-look.answer v w) c.check_of.ensures (c.in-Some-look.ensures.row (deed_at m r)) in
     (z, q.0, v, w, q.1.room, f, at, row)
 
@@ -53,7 +53,7 @@ returns-clause-fits g c = λ u fits.
     let m = c.args.self.now in
     let r = c.args.room.now in
     let f = is_finding z u m r v c.in-Finding.is fits in
-    let at = sym c.stand.ensures.at ∙ c.in-Some.is in
+    let at = sym c.position.ensures.at ∙ c.in-Some.is in
     let row = subst (λ (a : Action). Answers z (telling (deed_at m r)) a c.in-Some-look.answer v w) c.check_of.ensures (c.in-Some-look.ensures.row (deed_at m r)) in
     c.settled.ensures.fits z u v w fits.room f at row
 
@@ -63,6 +63,6 @@ returns-clause-made g c =
     let v = g.S.Steps.view c.args.steps.now in
     let w = g.S.Steps.view c.look.new.steps in
     let d = deed_at c.args.self.now c.args.room.now in
-    let one = (look_counts z d c.check_of.result c.in-Some-look.answer v w (subst IsLook (sym c.check_of.ensures) (check_look c.in-Some.stand.verdict c.in-Some.stand)) (c.in-Some-look.ensures.row d)).steps in
+    let one = (look_counts z d c.check_of.result c.in-Some-look.answer v w (subst IsLook (sym c.check_of.ensures) (check_look c.in-Some.position.verdict c.in-Some.position)) (c.in-Some-look.ensures.row d)).steps in
     let more = c.if-left-le1.false in
     omega (arith, one, more)

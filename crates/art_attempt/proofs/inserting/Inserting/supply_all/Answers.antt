@@ -1,20 +1,20 @@
--- The steps are those of the supplying.
+-- The steps are those of the reserve.
 use Rattle.std.proofs.Common.{◌≡◌, ◌∙◌, ℕ, List, sym, subst, arith}
 use Rattle.art_attempt.proofs.Given.{supply_asks_supply, supply_steps}
 use Rattle.art_attempt.specs.Inserting.{Fits, HasSupplies, StageFits}
-use Rattle.art_attempt.specs.Rooms.{wants_of}
+use Rattle.art_attempt.specs.Rooms.{demand_of}
 use Rattle.art_attempt.specs.declared.inserting.Inserting.{Inserting}
 use Rattle.art_attempt.specs.declared.inserting.Stage.{Stage}
-use Rattle.art_attempt.specs.declared.inserting.Stage.TheVariants.{Supplying}
+use Rattle.art_attempt.specs.declared.inserting.Stage.TheVariants.{Reserve}
 use Rattle.art_attempt.specs.declared.rooms.Room.{Room}
 use Rattle.art_machine.specs.Acting.{Answers, IsAllowed}
-use Rattle.art_gather.specs.Supplying.{Fits as SupplyFits, asks}
+use Rattle.art_gather.specs.Reserve.{Fits as SupplyFits, asks}
 use Rattle.art_step.specs.declared.views.Sizes.{Sizes}
 use Rattle.art_step.specs.declared.views.View.{View}
 use Rattle.std.specs.Prelude.{None, Some}
 use Rattle.art_attempt.proofs.inserting.Inserting.supply_all.Goals as goal
 
-has_supplies : (z : Sizes) (u : View) (m : Inserting) (r : Room) (v : View) → m.stage ≡ Supplying → Fits z u m r v → HasSupplies z u m r v
+has_supplies : (z : Sizes) (u : View) (m : Inserting) (r : Room) (v : View) → m.stage ≡ Reserve → Fits z u m r v → HasSupplies z u m r v
 has_supplies z u m r v is fits = (subst (λ (s : Stage). StageFits z u s m r v) is fits.stage).0
 
 -- words of the leaf were written before, whose carrier has the same sizes
@@ -48,9 +48,9 @@ perform-answer-requires-clause-allowed g c =
     let same = g.met.S.Steps.only_sizes c.loop-left.steps c.pack_all.new.steps c.pack_all.ensures.only ∙ i.sizes in
     let here = keeps (g.S.Steps.sizes c.loop-left.steps) z c.loop-left.self m r (g.S.Steps.view c.loop-left.steps) v i.sizes c.pack_all.ensures.fits i.here.0 i.here.1 in
     let h = has_supplies z i.here.0 m r v c.pack_all.ensures.stage here in
-    let wants = wants_of z m.stand.verdict in
+    let demand = demand_of z m.position.verdict in
     subst (λ (y : Sizes). IsAllowed y None v c.in-Some.asked) (sym same)
-    (c.in-Some.ensures.allowed z h.early v wants (subst (λ (l : List ℕ). SupplyFits z wants l r.row.value m.supplying r.stock h.early v) (sym c.as_slice-key.ensures.value) h.fits))
+    (c.in-Some.ensures.allowed z h.early v demand (subst (λ (l : List ℕ). SupplyFits z demand l r.row.value m.reserve r.stock h.early v) (sym c.as_slice-key.ensures.value) h.fits))
 
 pub supply_told-requires : goal.supply_told-requires
 supply_told-requires g c =
@@ -62,7 +62,7 @@ supply_told-requires g c =
     let r = c.loop-left.room in
     let same = g.met.S.Steps.only_sizes c.loop-left.steps c.pack_all.new.steps c.pack_all.ensures.only ∙ i.sizes in
     let here = keeps (g.S.Steps.sizes c.loop-left.steps) z c.loop-left.self m r (g.S.Steps.view c.loop-left.steps) v i.sizes c.pack_all.ensures.fits i.here.0 i.here.1 in
-    let is = subst (λ (l : List ℕ). asks l r.row.value r.stock m.supplying ≡ Some c.in-Some.asked) c.as_slice-key.ensures.value (sym {b = asks _ r.row.value r.stock m.supplying} c.next.ensures.asks ∙ c.in-Some.is) in
+    let is = subst (λ (l : List ℕ). asks l r.row.value r.stock m.reserve ≡ Some c.in-Some.asked) c.as_slice-key.ensures.value (sym {b = asks _ r.row.value r.stock m.reserve} c.next.ensures.asks ∙ c.in-Some.is) in
     let row = subst (λ (y : Sizes). Answers y None c.in-Some.asked c.perform-answer.result v w) same c.perform-answer.ensures.row in
     (z, i.here.0, v, w, c.in-Some.asked, i.here.1.room, has_supplies z i.here.0 m r v c.pack_all.ensures.stage here, is, row)
 
@@ -79,12 +79,12 @@ loop-left-preserved g c =
     let k = r.row.key.items in
     let same = g.met.S.Steps.only_sizes c.loop-left.steps t c.pack_all.ensures.only ∙ i.sizes in
     let packs = keeps (g.S.Steps.sizes c.loop-left.steps) z c.loop-left.self m r (g.S.Steps.view c.loop-left.steps) v i.sizes c.pack_all.ensures.fits in
-    let is : asks k r.row.value r.stock m.supplying ≡ Some c.in-Some.asked = subst (λ (l : List ℕ). asks l r.row.value r.stock m.supplying ≡ Some c.in-Some.asked) c.as_slice-key.ensures.value (sym {b = asks _ r.row.value r.stock m.supplying} c.next.ensures.asks ∙ c.in-Some.is) in
+    let is : asks k r.row.value r.stock m.reserve ≡ Some c.in-Some.asked = subst (λ (l : List ℕ). asks l r.row.value r.stock m.reserve ≡ Some c.in-Some.asked) c.as_slice-key.ensures.value (sym {b = asks _ r.row.value r.stock m.reserve} c.next.ensures.asks ∙ c.in-Some.is) in
     let row : Answers z None c.in-Some.asked c.perform-answer.result v w = subst (λ (y : Sizes). Answers y None c.in-Some.asked c.perform-answer.result v w) same c.perform-answer.ensures.row in
     let h = has_supplies z i.here.0 m r v c.pack_all.ensures.stage (packs i.here.0 i.here.1) in
-    let wants = wants_of z m.stand.verdict in
-    let may = c.in-Some.ensures.allowed z h.early v wants (subst (λ (l : List ℕ). SupplyFits z wants l r.row.value m.supplying r.stock h.early v) (sym c.as_slice-key.ensures.value) h.fits) in
-    let one = supply_steps z c.in-Some.asked c.perform-answer.result v w (supply_asks_supply k r.row.value r.stock m.supplying c.in-Some.asked is) may row in
+    let demand = demand_of z m.position.verdict in
+    let may = c.in-Some.ensures.allowed z h.early v demand (subst (λ (l : List ℕ). SupplyFits z demand l r.row.value m.reserve r.stock h.early v) (sym c.as_slice-key.ensures.value) h.fits) in
+    let one = supply_steps z c.in-Some.asked c.perform-answer.result v w (supply_asks_supply k r.row.value r.stock m.reserve c.in-Some.asked is) may row in
     let on : (u : View) → Fits z u m r v → Fits z u c.supply_told.new.self c.supply_told.new.room w = λ u fits.
     c.supply_told.ensures.fits z u v w c.in-Some.asked fits.room (has_supplies z u m r v c.pack_all.ensures.stage fits) is row in
     let made = i.made in

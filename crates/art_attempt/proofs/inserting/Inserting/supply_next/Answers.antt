@@ -3,8 +3,8 @@ use Rattle.std.specs.Prelude.{IfSome}
 use Rattle.art_attempt.proofs.Given.{plain_may, supply_asks_supply, supply_plain}
 use Rattle.art_attempt.proofs.inserting.Inserting.supply_next.Goals as goal
 use Rattle.art_attempt.specs.Asking.{IsAllowed}
-use Rattle.art_attempt.specs.Rooms.{wants_of}
-use Rattle.art_gather.specs.Supplying.{Fits as SupplyFits, asks}
+use Rattle.art_attempt.specs.Rooms.{demand_of}
+use Rattle.art_gather.specs.Reserve.{Fits as SupplyFits, asks}
 use Rattle.art_machine.specs.declared.actions.Action.{Action}
 use Rattle.art_machine.specs.Acting as acting
 
@@ -16,9 +16,9 @@ returns-clause-allowed c z u v d h = by_answer c.next.result refl
     by_answer (Some a) is =
         let r = c.args.room.now in
         let m = c.args.self.now in
-        let wants = wants_of z m.stand.verdict in
+        let demand = demand_of z m.position.verdict in
         let key = c.as_slice-key.ensures.value in
-        let at = subst (λ (l : List ℕ). asks l r.row.value r.stock m.supplying ≡ Some a) key (sym {b = asks _ r.row.value r.stock m.supplying} c.next.ensures.asks ∙ is) in
-        let may = c.next.ensures.allowed z h.early v wants (subst (λ (l : List ℕ). SupplyFits z wants l r.row.value m.supplying r.stock h.early v) (sym key) h.fits) in
-        plain_may z d r.change v a (supply_plain a (supply_asks_supply r.row.key.items r.row.value r.stock m.supplying a at))
+        let at = subst (λ (l : List ℕ). asks l r.row.value r.stock m.reserve ≡ Some a) key (sym {b = asks _ r.row.value r.stock m.reserve} c.next.ensures.asks ∙ is) in
+        let may = c.next.ensures.allowed z h.early v demand (subst (λ (l : List ℕ). SupplyFits z demand l r.row.value m.reserve r.stock h.early v) (sym key) h.fits) in
+        plain_may z d r.change v a (supply_plain a (supply_asks_supply r.row.key.items r.row.value r.stock m.reserve a at))
         (subst (λ (o : Option Action). IfSome o (acting.IsAllowed z None v)) is may)

@@ -1,8 +1,8 @@
 use Rattle.std.proofs.Common.{◌≡◌, ◌∙◌, ap, subst, sym}
 use Rattle.art_attempt.proofs.inserting.Inserting.supply_told.Goals as goal
-use Rattle.art_attempt.specs.Rooms.{wants_of}
-use Rattle.art_gather.specs.Supplying.{Fits as SupplyFits}
-use Rattle.art_gather.specs.declared.supplying.Wants.{Wants}
+use Rattle.art_attempt.specs.Rooms.{demand_of}
+use Rattle.art_gather.specs.Reserve.{Fits as SupplyFits}
+use Rattle.art_gather.specs.declared.reserve.Demand.{Demand}
 use Rattle.art_step.specs.declared.views.Sizes.{Sizes as SizesOf}
 
 pub returns-clause-fits : goal.returns-clause-fits
@@ -11,12 +11,12 @@ returns-clause-fits c z u v w asked room h is row =
     let r = c.args.room.now in
     let k = r.row.key.items in
     let value = r.row.value in
-    let same : wants_of z m.stand.verdict ≡ c.wants_of-wants.result = sym (c.wants_of-wants.ensures ∙ ap (λ (y : SizesOf). wants_of y m.stand.verdict) room.sizes) in
-    let fits = c.told.ensures.fits z k value h.early v w asked (subst (λ (x : Wants). SupplyFits z x k value m.supplying r.stock h.early v) same h.fits) is row in
+    let same : demand_of z m.position.verdict ≡ c.demand_of-demand.result = sym (c.demand_of-demand.ensures ∙ ap (λ (y : SizesOf). demand_of y m.position.verdict) room.sizes) in
+    let fits = c.told.ensures.fits z k value h.early v w asked (subst (λ (x : Demand). SupplyFits z x k value m.reserve r.stock h.early v) same h.fits) is row in
     c.supply_on.ensures.fits z u w (record { sizes = room.sizes; key = room.key }) (record {
       early = h.early;
       base = h.base;
       spent = h.spent;
-      place = record { standing = h.place.standing; checked = h.place.checked; comes = h.place.comes };
-      fits = subst (λ (x : Wants). SupplyFits z x k value c.told.new.self c.told.new.stock h.early w) (sym same) fits;
+      place = record { standing = h.place.standing; stood = h.place.stood; checked = h.place.checked; comes = h.place.comes };
+      fits = subst (λ (x : Demand). SupplyFits z x k value c.told.new.self c.told.new.stock h.early w) (sym same) fits;
     })

@@ -22,7 +22,7 @@ returns-clause-fits c z u v room h all =
           has = so.has;
           all = all;
           comes = h.place.comes;
-          fits = subst (λ (n : Needs). VouchingFits z r.row.key.items n.above m.stand c.new-self.result r.desk v v) c.needed-both.ensures fits;
+          fits = subst (λ (n : Needs). VouchingFits z r.row.key.items n.above m.position c.new-self.result r.read_set v v) c.needed-both.ensures fits;
         },
         c.new-self.ensures.going,
       );

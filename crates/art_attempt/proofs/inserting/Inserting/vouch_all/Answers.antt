@@ -28,7 +28,7 @@ look-requires g c =
     let h = is_vouching z i.here.0 m r v c.in-Vouching.is i.here.1 in
     record {
       allowed = subst (λ (y : Sizes). MayLook y (λ s. ⊤) v c.in-Some.asked) (sym i.sizes)
-          (c.in-Some.ensures.allowed z r.row.key.items (both_of m.stand.verdict) r.desk h.early v h.fits);
+          (c.in-Some.ensures.allowed z r.row.key.items (both_of m.position.verdict) r.read_set h.early v h.fits);
     }
 
 pub vouch_told-requires-clause-told : goal.vouch_told-requires-clause-told
@@ -54,7 +54,7 @@ loop-left-preserved g c =
     let r = c.loop-left.room in
     let row : Answers z (telling (deed_at m r)) c.in-Some.asked c.in-Some-look.answer v w = subst (λ (y : Sizes). Answers y (telling (deed_at m r)) c.in-Some.asked c.in-Some-look.answer v w) i.sizes (c.in-Some-look.ensures.row (deed_at m r)) in
     let is = sym c.next.ensures.asks ∙ c.in-Some.is in
-    let one = (look_counts z (deed_at m r) c.in-Some.asked c.in-Some-look.answer v w (vouch_asks_look m.stand m.vouching c.in-Some.asked is) row).steps in
+    let one = (look_counts z (deed_at m r) c.in-Some.asked c.in-Some-look.answer v w (vouch_asks_look m.position m.vouching c.in-Some.asked is) row).steps in
     let on : (u : View) → Fits z u m r v → Fits z u c.vouch_told.new.self c.vouch_told.new.room w = λ u fits.
     c.vouch_told.ensures.fits z u v w c.in-Some.asked fits.room (is_vouching z u m r v c.in-Vouching.is fits) is row in
     let made = i.made in

@@ -20,10 +20,10 @@ plan-requires c =
     let h = q.6 in
     let k = r.row.key.items in
     let d = deed_at m r in
-    let one = cell_later q.0 d q.4 c.args.answer q.2 q.3 (vouch_asks_look m.stand m.vouching q.4 q.7) q.8 in
+    let one = cell_later q.0 d q.4 c.args.answer q.2 q.3 (vouch_asks_look m.position m.vouching q.4 q.7) q.8 in
     let next : Inserting = record m { vouching = c.told.new.self } in
-    let then : Room = record r { desk = c.told.new.desk } in
-    let fits = c.told.ensures.fits q.0 k d h.early q.2 q.3 q.4 (subst (λ (n : Needs). VouchFits q.0 k n.above m.stand m.vouching r.desk h.early q.2) (sym c.needed-both.ensures) h.fits) q.7 q.8 in
+    let then : Room = record r { read_set = c.told.new.read_set } in
+    let fits = c.told.ensures.fits q.0 k d h.early q.2 q.3 q.4 (subst (λ (n : Needs). VouchFits q.0 k n.above m.position m.vouching r.read_set h.early q.2) (sym c.needed-both.ensures) h.fits) q.7 q.8 in
     let vouched : HasVouched q.0 q.1 next then q.3 = record {
       early = h.early;
       base = h.base;
@@ -32,7 +32,7 @@ plan-requires c =
       has = h.has;
       all = h.all;
       comes = h.comes;
-      fits = subst (λ (n : Needs). VouchFits q.0 k n.above m.stand c.told.new.self c.told.new.desk h.early q.3) c.needed-both.ensures fits;
+      fits = subst (λ (n : Needs). VouchFits q.0 k n.above m.position c.told.new.self c.told.new.read_set h.early q.3) c.needed-both.ensures fits;
     } in
     (q.0, q.1, q.3, record { sizes = q.5.sizes; key = q.5.key }, vouched, sym c.ended.ensures.at ∙ (c.in-Some-Unchanged.is ∙ ap (λ (e : Vouched). Some e) c.in-Some-Unchanged.field-0-is))
 
@@ -43,10 +43,10 @@ returns-in-None-clause-fits c z u v w asked room g is row =
     let h = g in
     let k = r.row.key.items in
     let d = deed_at m r in
-    let one = cell_later z d asked c.args.answer v w (vouch_asks_look m.stand m.vouching asked is) row in
+    let one = cell_later z d asked c.args.answer v w (vouch_asks_look m.position m.vouching asked is) row in
     let next : Inserting = record m { vouching = c.told.new.self } in
-    let then : Room = record r { desk = c.told.new.desk } in
-    let fits = c.told.ensures.fits z k d h.early v w asked (subst (λ (n : Needs). VouchFits z k n.above m.stand m.vouching r.desk h.early v) (sym c.needed-both.ensures) h.fits) is row in
+    let then : Room = record r { read_set = c.told.new.read_set } in
+    let fits = c.told.ensures.fits z k d h.early v w asked (subst (λ (n : Needs). VouchFits z k n.above m.position m.vouching r.read_set h.early v) (sym c.needed-both.ensures) h.fits) is row in
     let vouched : HasVouched z u next then w = record {
       early = h.early;
       base = h.base;
@@ -55,7 +55,7 @@ returns-in-None-clause-fits c z u v w asked room g is row =
       has = h.has;
       all = h.all;
       comes = h.comes;
-      fits = subst (λ (n : Needs). VouchFits z k n.above m.stand c.told.new.self c.told.new.desk h.early w) c.needed-both.ensures fits;
+      fits = subst (λ (n : Needs). VouchFits z k n.above m.position c.told.new.self c.told.new.read_set h.early w) c.needed-both.ensures fits;
     } in
     record {
       room = record { sizes = room.sizes; key = room.key };
@@ -69,10 +69,10 @@ returns-in-Some-Changed-clause-fits c z u v w asked room g is row =
     let h = g in
     let k = r.row.key.items in
     let d = deed_at m r in
-    let one = cell_later z d asked c.args.answer v w (vouch_asks_look m.stand m.vouching asked is) row in
+    let one = cell_later z d asked c.args.answer v w (vouch_asks_look m.position m.vouching asked is) row in
     let next : Inserting = record m { vouching = c.told.new.self } in
-    let then : Room = record r { desk = c.told.new.desk } in
-    let fits = c.told.ensures.fits z k d h.early v w asked (subst (λ (n : Needs). VouchFits z k n.above m.stand m.vouching r.desk h.early v) (sym c.needed-both.ensures) h.fits) is row in
+    let then : Room = record r { read_set = c.told.new.read_set } in
+    let fits = c.told.ensures.fits z k d h.early v w asked (subst (λ (n : Needs). VouchFits z k n.above m.position m.vouching r.read_set h.early v) (sym c.needed-both.ensures) h.fits) is row in
     let vouched : HasVouched z u next then w = record {
       early = h.early;
       base = h.base;
@@ -81,7 +81,7 @@ returns-in-Some-Changed-clause-fits c z u v w asked room g is row =
       has = h.has;
       all = h.all;
       comes = h.comes;
-      fits = subst (λ (n : Needs). VouchFits z k n.above m.stand c.told.new.self c.told.new.desk h.early w) c.needed-both.ensures fits;
+      fits = subst (λ (n : Needs). VouchFits z k n.above m.position c.told.new.self c.told.new.read_set h.early w) c.needed-both.ensures fits;
     } in
     let so = vouched_changed z u next then w vouched (sym c.ended.ensures.at ∙ (c.in-Some-Changed.is ∙ ap (λ (e : Vouched). Some e) c.in-Some-Changed.field-0-is)) in
     record { room = record { sizes = room.sizes; key = room.key }; stage = (record { still = so.0.still; spent = so.0.spent; has = so.0.has }, so.1) }
@@ -93,10 +93,10 @@ returns-in-Some-Unchanged-clause-fits c z u v w asked room g is row =
     let h = g in
     let k = r.row.key.items in
     let d = deed_at m r in
-    let one = cell_later z d asked c.args.answer v w (vouch_asks_look m.stand m.vouching asked is) row in
+    let one = cell_later z d asked c.args.answer v w (vouch_asks_look m.position m.vouching asked is) row in
     let next : Inserting = record m { vouching = c.told.new.self } in
-    let then : Room = record r { desk = c.told.new.desk } in
-    let fits = c.told.ensures.fits z k d h.early v w asked (subst (λ (n : Needs). VouchFits z k n.above m.stand m.vouching r.desk h.early v) (sym c.needed-both.ensures) h.fits) is row in
+    let then : Room = record r { read_set = c.told.new.read_set } in
+    let fits = c.told.ensures.fits z k d h.early v w asked (subst (λ (n : Needs). VouchFits z k n.above m.position m.vouching r.read_set h.early v) (sym c.needed-both.ensures) h.fits) is row in
     let vouched : HasVouched z u next then w = record {
       early = h.early;
       base = h.base;
@@ -105,7 +105,7 @@ returns-in-Some-Unchanged-clause-fits c z u v w asked room g is row =
       has = h.has;
       all = h.all;
       comes = h.comes;
-      fits = subst (λ (n : Needs). VouchFits z k n.above m.stand c.told.new.self c.told.new.desk h.early w) c.needed-both.ensures fits;
+      fits = subst (λ (n : Needs). VouchFits z k n.above m.position c.told.new.self c.told.new.read_set h.early w) c.needed-both.ensures fits;
     } in
     c.plan.ensures.fits z u w (record { sizes = room.sizes; key = room.key }) vouched
     (sym c.ended.ensures.at ∙ (c.in-Some-Unchanged.is ∙ ap (λ (e : Vouched). Some e) c.in-Some-Unchanged.field-0-is))
@@ -119,9 +119,9 @@ returns-in-Some-Changed-clause-anew c anew =
     let k = r.row.key.items in
     let d = deed_at m r in
     let both = c.needed-both.result.above in
-    let before = subst (λ (n : Needs). VouchFits q.0 k n.above m.stand m.vouching r.desk h.early q.2) (sym c.needed-both.ensures) h.fits in
+    let before = subst (λ (n : Needs). VouchFits q.0 k n.above m.position m.vouching r.read_set h.early q.2) (sym c.needed-both.ensures) h.fits in
     let after = c.told.ensures.fits q.0 k d h.early q.2 q.3 q.4 before q.7 q.8 in
-    changed_by q.0 k both m.stand m.vouching c.told.new.self r.desk c.told.new.desk d q.4 c.args.answer h.early q.2 q.3 before after q.7 q.8
+    changed_by q.0 k both m.position m.vouching c.told.new.self r.read_set c.told.new.read_set d q.4 c.args.answer h.early q.2 q.3 before after q.7 q.8
     (sym c.ended.ensures.at ∙ (c.in-Some-Changed.is ∙ ap (λ (e : Vouched). Some e) c.in-Some-Changed.field-0-is))
 
 pub told-requires : goal.told-requires
@@ -130,4 +130,4 @@ told-requires c =
     let m = c.args.self.now in
     let r = c.args.room.now in
     let k = r.row.key.items in
-    (q.0, k, q.6.early, q.2, subst (λ (n : Needs). VouchFits q.0 k n.above m.stand m.vouching r.desk q.6.early q.2) (sym c.needed-both.ensures) q.6.fits)
+    (q.0, k, q.6.early, q.2, subst (λ (n : Needs). VouchFits q.0 k n.above m.position m.vouching r.read_set q.6.early q.2) (sym c.needed-both.ensures) q.6.fits)

@@ -15,5 +15,5 @@ pub returns-in-Seek-clause-ended : goal.returns-in-Seek-clause-ended
 returns-in-Seek-clause-ended g c =
     let a = c.args.self.now in
     let e = c.finish-in-Seek.ensures.ended in
-    let seen = seen_at c.finish-in-Seek.new.seek a.key.items a.hi c.finish-in-Seek.new.trail in
+    let seen = seen_at c.finish-in-Seek.new.seek a.key.items a.hi c.finish-in-Seek.new.path_buffer in
     (of_seek e.0 seen, ap (λ (o : Option SeekOutcome). option_map (λ s. of_seek s seen) o) e.1)

@@ -10,7 +10,7 @@ finish-requires-clause-fits g c =
     let z = g.S.Steps.sizes c.args.steps.now in
     let u = g.S.Steps.view c.args.steps.now in
     let a = c.args.self.now in
-    (u, c.new-seek.ensures.fits z c.as_slice.result.now End a.trail u c.requires.caller.ready.frame.may)
+    (u, c.new-seek.ensures.fits z c.as_slice.result.now End a.path_buffer u c.requires.caller.ready.frame.may)
 
 pub returns-clause-called : goal.returns-clause-called
 returns-clause-called g c =
@@ -22,10 +22,10 @@ returns-clause-called g c =
     let m = c.finish.new.seek in
     let e = c.finish.ensures in
     let q = c.requires.caller in
-    let n : Caller = record a { trail = c.finish.new.trail } in
+    let n : Caller = record a { path_buffer = c.finish.new.path_buffer } in
     let value = c.as_slice.ensures.value in
     let short = c.as_slice.ensures.fits in
-    let fits = e.fits u (c.new-seek.ensures.fits z c.as_slice.result.now End a.trail u q.ready.frame.may) in
+    let fits = e.fits u (c.new-seek.ensures.fits z c.as_slice.result.now End a.path_buffer u q.ready.frame.may) in
     let left = e.left in
     let most = c.new-seek.ensures.left in (
       m.restarts,
@@ -33,6 +33,6 @@ returns-clause-called g c =
           (subst (λ (l : List _). length l ≤ 64) value (omega (arith, short)))
           (record { few = q.few; sizes = q.sizes; ready = q.ready })
           (e.turns ∙ c.new-seek.ensures.turns.0)
-          (subst (λ (l : List _). Fits z l End u m n.trail v) value fits)
+          (subst (λ (l : List _). Fits z l End u m n.path_buffer v) value fits)
           c.args.turns None (e.aim ∙ c.new-seek.ensures.aim) (omega (arith, left, most)),
     )

@@ -14,7 +14,7 @@ finish-requires-clause-fits g c =
     let z = g.S.Steps.sizes c.args.steps.now in
     let u = g.S.Steps.view c.args.steps.now in
     let a = c.args.self.now in
-    (u, c.new-seek.ensures.fits z c.as_slice-bytes.result.now c.args.hi.now a.trail u c.requires.caller.ready.frame.may)
+    (u, c.new-seek.ensures.fits z c.as_slice-bytes.result.now c.args.hi.now a.path_buffer u c.requires.caller.ready.frame.may)
 
 pub returns-clause-called : goal.returns-clause-called
 returns-clause-called g c =
@@ -25,14 +25,14 @@ returns-clause-called g c =
     let k = c.args.lo.now in
     let hi = c.args.hi.now in
     let m = c.finish.new.seek in
-    let t = c.finish.new.trail in
+    let t = c.finish.new.path_buffer in
     let e = c.finish.ensures in
     let q = c.requires.caller in
-    let n : Caller = record a { trail = t; call = call.Seek m } in
+    let n : Caller = record a { path_buffer = t; call = call.Seek m } in
     let value = c.as_slice-bytes.ensures.value in
     let short = c.as_slice-bytes.ensures.fits in
     let small : (i : ℕ) → get_or c.as_slice-bytes.result.now i 0 < 256 = search rules in
-    let fits = e.fits u (c.new-seek.ensures.fits z c.as_slice-bytes.result.now hi a.trail u q.ready.frame.may) in
+    let fits = e.fits u (c.new-seek.ensures.fits z c.as_slice-bytes.result.now hi a.path_buffer u q.ready.frame.may) in
     let left = e.left in
     let most = c.new-seek.ensures.left in
     let o = e.ended.0 in

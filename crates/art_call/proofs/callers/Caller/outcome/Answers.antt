@@ -30,7 +30,7 @@ returns-in_ok-ended-in-Seek-clause-called c z w given turns u v calling =
     let few = calling.few in
     let bytes : (i : ℕ) → get_or c.as_slice-key.result.now i 0 < 256 = search rules in
     let small = subst (λ (k : List ℕ). (i : ℕ) → get_or k i 0 < 256) c.as_slice-key.ensures.value bytes in
-    let seen = c.seen-seen.ensures.at ∙ ap (λ (k : List ℕ). seen_at m k a.hi a.trail) c.as_slice-key.ensures.value in
+    let seen = c.seen-seen.ensures.at ∙ ap (λ (k : List ℕ). seen_at m k a.hi a.path_buffer) c.as_slice-key.ensures.value in
     subst (λ (x : Outcome). HasCalled z w given turns (restarts_in a) u a x v) (sym (c.of_seek.ensures ∙ ap (λ (s : Option Seen). of_seek o s) seen))
-    (subst (λ (n : ℕ). HasCalled z w given turns n u a (of_seek o (seen_at m a.key.items a.hi a.trail)) v) (sym (ap restarts_of c.in-Seek.is))
+    (subst (λ (n : ℕ). HasCalled z w given turns n u a (of_seek o (seen_at m a.key.items a.hi a.path_buffer)) v) (sym (ap restarts_of c.in-Seek.is))
     (seek_called z u a m v o (sym c.ended-in-Seek.ensures.at ∙ c.in_ok-ended-in-Seek.was) w given turns c.in-Seek.is small on (omega (arith, few))))

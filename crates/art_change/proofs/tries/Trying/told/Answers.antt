@@ -4,7 +4,7 @@ use Rattle.art_machine.specs.Acting.{steps_in}
 use Rattle.art_change.proofs.EitherKind.{erase_anew, erases_fits, erases_on, insert_anew, inserts_fits, inserts_on}
 use Rattle.art_change.proofs.Overlaps.{erase_apart, insert_overlaps}
 use Rattle.art_change.proofs.tries.Trying.told.Goals as goal
-use Rattle.art_change.specs.Tries.{Fits, IsAnewBy, IsOverlapBy, asks, deed_at, is_free, steps_left}
+use Rattle.art_change.specs.Tries.{Fits, IsRestartBy, IsOverlapBy, asks, deed_at, is_free, steps_left}
 use Rattle.art_change.specs.declared.tries.Trying.{Trying as TryingOf}
 use Rattle.art_change.specs.declared.tries.Trying.TheVariants.{Inserting, Erasing}
 
@@ -26,11 +26,11 @@ returns-in-Erasing-clause-fits c z u v w job asked fits is row =
 
 pub returns-in-Inserting-clause-anew : goal.returns-in-Inserting-clause-anew
 returns-in-Inserting-clause-anew c is =
-    subst (λ (t : TryingOf). IsAnewBy t (Inserting c.told.new.self) c.args.answer) (sym c.in-Inserting.is) (c.told.ensures.anew (insert_anew c.told.new.self is))
+    subst (λ (t : TryingOf). IsRestartBy t (Inserting c.told.new.self) c.args.answer) (sym c.in-Inserting.is) (c.told.ensures.anew (insert_anew c.told.new.self is))
 
 pub returns-in-Erasing-clause-anew : goal.returns-in-Erasing-clause-anew
 returns-in-Erasing-clause-anew c is =
-    subst (λ (t : TryingOf). IsAnewBy t (Erasing c.told-in-Erasing.new.self) c.args.answer) (sym c.in-Erasing.is) (c.told-in-Erasing.ensures.anew (erase_anew c.told-in-Erasing.new.self is))
+    subst (λ (t : TryingOf). IsRestartBy t (Erasing c.told-in-Erasing.new.self) c.args.answer) (sym c.in-Erasing.is) (c.told-in-Erasing.ensures.anew (erase_anew c.told-in-Erasing.new.self is))
 
 pub returns-in-Inserting-clause-overlaps : goal.returns-in-Inserting-clause-overlaps
 returns-in-Inserting-clause-overlaps c is =

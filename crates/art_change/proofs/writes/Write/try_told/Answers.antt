@@ -3,7 +3,7 @@ use Rattle.art_change.proofs.Frames.{still_counted}
 use Rattle.art_change.proofs.EitherKind.{ended_steps, ends_as, try_room, try_steps}
 use Rattle.art_change.specs.Tries.{steps_left}
 use Rattle.art_change.specs.declared.tries.Tried.{Tried}
-use Rattle.art_change.specs.declared.tries.Tried.TheVariants.{Anew, Overlaps}
+use Rattle.art_change.specs.declared.tries.Tried.TheVariants.{Restart, Overlaps}
 use Rattle.art_change.specs.declared.writes.Outcome.TheVariants.{Overlaps as overlaps}
 use Rattle.art_change.proofs.writes.Write.try_told.Goals as goal
 
@@ -61,7 +61,7 @@ returns-in-None-clause-restarts c = inl c.turn.ensures.restarts
 pub returns-in-Some-clause-restarts : goal.returns-in-Some-clause-restarts
 returns-in-Some-clause-restarts c = ⊎_elim
     (λ (same : c.tried.new.self.restarts ≡ c.args.self.now.restarts). inl same)
-    (λ (anew : c.in-Some.tried ≡ Anew). inr (c.told.new.self, c.told.ensures.anew (sym c.ended.ensures.at ∙ (c.in-Some.is ∙ ap (λ (e : Tried). Some e) anew))))
+    (λ (anew : c.in-Some.tried ≡ Restart). inr (c.told.new.self, c.told.ensures.anew (sym c.ended.ensures.at ∙ (c.in-Some.is ∙ ap (λ (e : Tried). Some e) anew))))
     c.tried.ensures.restarts
 
 pub returns-in-None-clause-overlaps : goal.returns-in-None-clause-overlaps

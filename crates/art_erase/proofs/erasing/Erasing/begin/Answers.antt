@@ -5,7 +5,7 @@ use Rattle.art_plan.proofs.Renewing.{plain_whole}
 use Rattle.art_erase.proofs.erasing.Erasing.begin.Goals as goal
 
 pub returns-clause-fits : goal.returns-clause-fits
-returns-clause-fits c z u v room so removal locks each = record {
+returns-clause-fits c z u v room so removal goes locks each = record {
   room = room;
   stage = (
     record {
@@ -14,6 +14,7 @@ returns-clause-fits c z u v room so removal locks each = record {
       later = later_first v;
       spent = so.spent;
       locks = record { only = locks; each = each };
+      chosen = goes;
       has = so.has;
       plain = removal.planned.plain;
       leaf = removal.leaf;

@@ -12,7 +12,7 @@ pub returns-in-Merges-clause-fits : goal.returns-in-Merges-clause-fits
 returns-in-Merges-clause-fits c z u v room so lost =
     let m = c.args.self.now in
     let r = c.args.room.now in
-    let p = begins_vouching z u 1201 m.stand r v so lost in
+    let p = begins_vouching z u 1201 m.position r v so lost in
     c.read_on.ensures.fits z u v room (record {
       early = v;
       base = so.still;
@@ -22,7 +22,7 @@ returns-in-Merges-clause-fits c z u v room so lost =
       found = lost.found;
       reads = p;
       merges = sym c.loss.ensures ∙ c.in-Merges.is;
-      fits = here_begins z r.gone.key.items m.stand r.desk v v p c.new.result c.node.result.now c.node.ensures (c.new.ensures.fits z v m.stand.stamp);
+      fits = here_begins z r.gone.key.items m.position r.read_set v v p c.new.result c.node.result.now c.node.ensures (c.new.ensures.fits z v m.position.stamp);
     })
 
 pub supply-requires : goal.supply-requires

@@ -21,7 +21,7 @@ returns-then-not-on-clause-fits c z u v w asked room f is row =
     let what = absent_of r.gone in
     let at = no_place m.finding (asks m.finding.descent.stage) asked c.requires.nowhere is in
     let slice : c.as_slice.result.now ≡ r.gone.key.items = c.as_slice.ensures.value in
-    let fits = c.told-on.ensures.fits z what f.early v w asked (subst (λ (k : List ℕ). FindingFits z k what m.finding r.desk f.early v) (sym slice) f.fits) at row in
+    let fits = c.told-on.ensures.fits z what f.early v w asked (subst (λ (k : List ℕ). FindingFits z k what m.finding r.read_set f.early v) (sym slice) f.fits) at row in
     let now = c.told-on.new.self.descent in
     let going = zero_going now.depth now.stage (c.told-on.ensures.anew c.if-not-on.true) in
     let reads = still_reading z c.as_slice.result.now what now.depth now.stage f.early w going fits.descent in
@@ -39,20 +39,20 @@ returns-else-not-on-clause-fits c z u v w asked room f is row =
     let at = no_place m.finding (asks m.finding.descent.stage) asked c.requires.nowhere is in
     let none = undecided m.finding c.requires.nowhere in
     let slice : c.as_slice.result.now ≡ r.gone.key.items = c.as_slice.ensures.value in
-    let fits = c.told-on.ensures.fits z what f.early v w asked (subst (λ (k : List ℕ). FindingFits z k what m.finding r.desk f.early v) (sym slice) f.fits) at row in
+    let fits = c.told-on.ensures.fits z what f.early v w asked (subst (λ (k : List ℕ). FindingFits z k what m.finding r.read_set f.early v) (sym slice) f.fits) at row in
     let on = sym c.told-on.ensures.on ∙ c.if-not-on.false in
     let one = cell_later z d asked c.args.answer v w (asks_look m.finding.descent.stage asked at) row in
     let step = cell_step z d asked c.args.answer v w (asks_look m.finding.descent.stage asked at) row in
     let further = c.told-on.ensures.steps c.if-not-on.false in
     let next : Erasing = record m { finding = c.told-on.new.self } in
-    let then : Room = record r { desk = c.told-on.new.desk } in
+    let then : Room = record r { read_set = c.told-on.new.read_set } in
     let found : IsFinding z u next then w = record {
       early = f.early;
       base = f.base;
       later = later_then f.early v w f.later one;
       spent = λ limited. (let spent = f.spent limited in let more = one.failures in omega (arith, spent, step, further, more));
       has = f.has;
-      fits = subst (λ (k : List ℕ). FindingFits z k what c.told-on.new.self c.told-on.new.desk f.early w) slice fits;
+      fits = subst (λ (k : List ℕ). FindingFits z k what c.told-on.new.self c.told-on.new.read_set f.early w) slice fits;
       going = still_going z d asked c.args.answer v w m.finding.descent c.told-on.new.self.descent c.told-on.ensures.stays at row none f.going on;
       exact = c.told-on.ensures.exact;
     } in

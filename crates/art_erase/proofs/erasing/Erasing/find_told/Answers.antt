@@ -10,6 +10,6 @@ pub returns-in-Some-clause-fits : goal.returns-in-Some-clause-fits
 returns-in-Some-clause-fits c z u v w asked room f is row =
     let m = c.args.self.now in
     let d = absent c.args.room.now.gone in
-    let at = sym c.stand.ensures.at ∙ c.in-Some.is in
-    let check = at_place m.finding (asks m.finding.descent.stage) asked c.in-Some.stand at is in
+    let at = sym c.position.ensures.at ∙ c.in-Some.is in
+    let check = at_place m.finding (asks m.finding.descent.stage) asked c.in-Some.position at is in
     c.settled.ensures.fits z u v w room f at (subst (λ (a : Action). Answers z (telling d) a c.args.answer v w) (sym check) row)

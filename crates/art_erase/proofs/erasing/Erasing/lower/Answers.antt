@@ -7,7 +7,7 @@ use Rattle.art_erase.proofs.erasing.Erasing.lower.Goals as goal
 pub returns-clause-fits : goal.returns-clause-fits
 returns-clause-fits c z u v r room so lost known merges named leaves =
     let m = c.args.self.now in
-    let at = merges_node m.stand r.desk merges in
+    let at = merges_node m.position r.read_set merges in
     record {
       room = room;
       stage = (
@@ -22,8 +22,8 @@ returns-clause-fits c z u v r room so lost known merges named leaves =
           lower = c.args.node;
           is = refl;
           leaves = leaves;
-          fits = c.new-self.ensures.fits z r.gone.key.items m.stand r.desk r.lower v
-              (record { vouching = begins_vouching z u 21700 m.stand r v so lost; whole = known; here = at.0; is = at.1; named = named });
+          fits = c.new-self.ensures.fits z r.gone.key.items m.position r.read_set r.lower v
+              (record { vouching = begins_vouching z u 21700 m.position r v so lost; whole = known; here = at.0; is = at.1; named = named });
         },
         c.new-self.ensures.going,
       );

@@ -21,7 +21,7 @@ look-requires g c =
     let h = has_lower z i.here.0 m r v c.in-Lowering.is i.here.1 in
     record {
       allowed = subst (λ (y : Sizes). MayLook y (λ s. ⊤) v c.in-Some.asked) (sym i.sizes)
-          (c.in-Some.ensures.allowed z r.gone.key.items h.lower r.desk r.lower h.early v h.fits);
+          (c.in-Some.ensures.allowed z r.gone.key.items h.lower r.read_set r.lower h.early v h.fits);
     }
 
 pub returns-in_default-look-clause-fits : goal.returns-in_default-look-clause-fits
@@ -55,7 +55,7 @@ loop-left-preserved g c =
     let a = c.in-Some.asked in
     let row : Answers z (telling d) a c.in-Some-look.answer v w = subst (λ (y : Sizes). Answers y (telling d) a c.in-Some-look.answer v w) i.sizes (c.in-Some-look.ensures.row d) in
     let is = sym c.next.ensures.asks ∙ c.in-Some.is in
-    let one = (look_counts z d a c.in-Some-look.answer v w (lower_asks_look m.stand m.lowering a is) row).steps in
+    let one = (look_counts z d a c.in-Some-look.answer v w (lower_asks_look m.position m.lowering a is) row).steps in
     let on : (u : View) → Fits z u m r v → Fits z u c.lower_told.new.self c.lower_told.new.room w = λ u fits.
     c.lower_told.ensures.fits z u v w a fits.room (has_lower z u m r v c.in-Lowering.is fits) is row in
     let made = i.made in

@@ -20,9 +20,9 @@ plan_lowers-requires c =
     let r = c.args.room.now in
     let k = r.gone.key.items in
     let d = absent r.gone in
-    let one = cell_later q.0 d q.4 c.args.answer q.2 q.3 (lower_asks_look m.stand m.lowering q.4 q.7) q.8 in
+    let one = cell_later q.0 d q.4 c.args.answer q.2 q.3 (lower_asks_look m.position m.lowering q.4 q.7) q.8 in
     let next : Erasing = record m { lowering = c.told.new.self } in
-    let then : Room = record r { desk = c.told.new.desk; lower = c.told.new.lower } in
+    let then : Room = record r { read_set = c.told.new.read_set; lower = c.told.new.lower } in
     let lower : HasLower q.0 q.1 next then q.3 = record {
       early = h.early;
       base = h.base;
@@ -33,7 +33,7 @@ plan_lowers-requires c =
       byte = h.byte;
       lower = h.lower;
       is = h.is;
-      leaves = leaves_same m.stand r.desk c.told.new.desk c.told.ensures.node q.0 r.gone h.byte (node h.lower) h.leaves;
+      leaves = leaves_same m.position r.read_set c.told.new.read_set c.told.ensures.node q.0 r.gone h.byte (node h.lower) h.leaves;
       fits = c.told.ensures.fits q.0 k h.lower d h.early q.2 q.3 q.4 h.fits q.7 q.8;
     } in
     (q.0, q.1, q.3, record { sizes = q.5.sizes; key = q.5.key }, lower, sym c.ended.ensures.at ∙ (c.in-Some-Unchanged.is ∙ ap (λ (e : Lowered). Some e) c.in-Some-Unchanged.field-0-is))
@@ -44,9 +44,9 @@ returns-in-None-clause-fits c z u v w asked room h is row =
     let r = c.args.room.now in
     let k = r.gone.key.items in
     let d = absent r.gone in
-    let one = cell_later z d asked c.args.answer v w (lower_asks_look m.stand m.lowering asked is) row in
+    let one = cell_later z d asked c.args.answer v w (lower_asks_look m.position m.lowering asked is) row in
     let next : Erasing = record m { lowering = c.told.new.self } in
-    let then : Room = record r { desk = c.told.new.desk; lower = c.told.new.lower } in
+    let then : Room = record r { read_set = c.told.new.read_set; lower = c.told.new.lower } in
     let lower : HasLower z u next then w = record {
       early = h.early;
       base = h.base;
@@ -57,7 +57,7 @@ returns-in-None-clause-fits c z u v w asked room h is row =
       byte = h.byte;
       lower = h.lower;
       is = h.is;
-      leaves = leaves_same m.stand r.desk c.told.new.desk c.told.ensures.node z r.gone h.byte (node h.lower) h.leaves;
+      leaves = leaves_same m.position r.read_set c.told.new.read_set c.told.ensures.node z r.gone h.byte (node h.lower) h.leaves;
       fits = c.told.ensures.fits z k h.lower d h.early v w asked h.fits is row;
     } in
     record {
@@ -71,9 +71,9 @@ returns-in-Some-Changed-clause-fits c z u v w asked room h is row =
     let r = c.args.room.now in
     let k = r.gone.key.items in
     let d = absent r.gone in
-    let one = cell_later z d asked c.args.answer v w (lower_asks_look m.stand m.lowering asked is) row in
+    let one = cell_later z d asked c.args.answer v w (lower_asks_look m.position m.lowering asked is) row in
     let next : Erasing = record m { lowering = c.told.new.self } in
-    let then : Room = record r { desk = c.told.new.desk; lower = c.told.new.lower } in
+    let then : Room = record r { read_set = c.told.new.read_set; lower = c.told.new.lower } in
     let lower : HasLower z u next then w = record {
       early = h.early;
       base = h.base;
@@ -84,7 +84,7 @@ returns-in-Some-Changed-clause-fits c z u v w asked room h is row =
       byte = h.byte;
       lower = h.lower;
       is = h.is;
-      leaves = leaves_same m.stand r.desk c.told.new.desk c.told.ensures.node z r.gone h.byte (node h.lower) h.leaves;
+      leaves = leaves_same m.position r.read_set c.told.new.read_set c.told.ensures.node z r.gone h.byte (node h.lower) h.leaves;
       fits = c.told.ensures.fits z k h.lower d h.early v w asked h.fits is row;
     } in
     let so = lower_changed z u next then w lower (sym c.ended.ensures.at ∙ (c.in-Some-Changed.is ∙ ap (λ (e : Lowered). Some e) c.in-Some-Changed.field-0-is)) in
@@ -96,9 +96,9 @@ returns-in-Some-Unchanged-clause-fits c z u v w asked room h is row =
     let r = c.args.room.now in
     let k = r.gone.key.items in
     let d = absent r.gone in
-    let one = cell_later z d asked c.args.answer v w (lower_asks_look m.stand m.lowering asked is) row in
+    let one = cell_later z d asked c.args.answer v w (lower_asks_look m.position m.lowering asked is) row in
     let next : Erasing = record m { lowering = c.told.new.self } in
-    let then : Room = record r { desk = c.told.new.desk; lower = c.told.new.lower } in
+    let then : Room = record r { read_set = c.told.new.read_set; lower = c.told.new.lower } in
     let lower : HasLower z u next then w = record {
       early = h.early;
       base = h.base;
@@ -109,7 +109,7 @@ returns-in-Some-Unchanged-clause-fits c z u v w asked room h is row =
       byte = h.byte;
       lower = h.lower;
       is = h.is;
-      leaves = leaves_same m.stand r.desk c.told.new.desk c.told.ensures.node z r.gone h.byte (node h.lower) h.leaves;
+      leaves = leaves_same m.position r.read_set c.told.new.read_set c.told.ensures.node z r.gone h.byte (node h.lower) h.leaves;
       fits = c.told.ensures.fits z k h.lower d h.early v w asked h.fits is row;
     } in
     c.plan_lowers.ensures.fits z u w (record { sizes = room.sizes; key = room.key }) lower
@@ -124,5 +124,5 @@ returns-in-Some-Changed-clause-anew c anew =
     let k = r.gone.key.items in
     let d = absent r.gone in
     let after = c.told.ensures.fits q.0 k h.lower d h.early q.2 q.3 q.4 h.fits q.7 q.8 in
-    lower_changed_by q.0 k m.stand h.lower m.lowering c.told.new.self r.desk c.told.new.desk r.lower c.told.new.lower d q.4 c.args.answer h.early q.2 q.3 h.fits after q.7 q.8
+    lower_changed_by q.0 k m.position h.lower m.lowering c.told.new.self r.read_set c.told.new.read_set r.lower c.told.new.lower d q.4 c.args.answer h.early q.2 q.3 h.fits after q.7 q.8
     (sym c.ended.ensures.at ∙ (c.in-Some-Changed.is ∙ ap (λ (e : Lowered). Some e) c.in-Some-Changed.field-0-is))

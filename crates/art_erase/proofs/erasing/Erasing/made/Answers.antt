@@ -12,7 +12,7 @@ returns-in-Ok-clause-fits c z u v room h is =
     let erased = change_erased z u m r v h c.args.made is c.in-Ok.is in
     record {
       room = subst (IsRoom z) (sym c.spend.ensures) (record { sizes = room.sizes; key = room.key });
-      stage = subst (λ (q : Room). HasErased z u q q.gone.value v) (sym c.spend.ensures) erased;
+      stage = subst (λ (q : Room). HasErased z u m.position m.way q q.gone.value v) (sym c.spend.ensures) erased;
     }
 
 pub returns-in-Err-clause-fits : goal.returns-in-Err-clause-fits
@@ -21,5 +21,5 @@ returns-in-Err-clause-fits c z u v room h is =
     let r = c.args.room.now in
     record {
       room = room;
-      stage = subst (λ (e : Erased). EndFits z u m.stand m.way m.lowering r e v) (sym c.given_up.ensures) (change_given_up z u m r v h c.args.made is c.in-Err.fault c.in-Err.is);
+      stage = subst (λ (e : Erased). EndFits z u m.position m.way m.lowering r e v) (sym c.given_up.ensures) (change_given_up z u m r v h c.args.made is c.in-Err.fault c.in-Err.is);
     }

@@ -1,22 +1,24 @@
 use Rattle.std.proofs.Common.{◌≡◌, ◌∙◌, ◌-◌, ◌<◌, Some, true, ap, sym, subst, arith}
 use Rattle.std.specs.Prelude.{Result, ⊤}
 use Rattle.std.proofs.lemmas.Option.{same_Some}
-use Rattle.art_attempt.proofs.Given.{making_asks_made}
+use Rattle.art_attempt.proofs.Given.{apply_asks_made}
 use Rattle.art_attempt.proofs.Left.{fault_ended, going_less, last_stays, step_or_last, still_made}
 use Rattle.art_attempt.proofs.Looks.{begun_none}
 use Rattle.art_attempt.proofs.Steps.{change_later}
 use Rattle.art_attempt.proofs.Tries.{later_then}
+use Rattle.art_erase.proofs.Chosen.{goes_later}
+use Rattle.art_erase.proofs.Founds.{change_keeps}
 use Rattle.art_erase.proofs.Left.{anew_fault, ended_less}
 use Rattle.art_erase.proofs.erasing.Erasing.make_told.Goals as goal
 use Rattle.art_machine.specs.Acting.{steps_in}
-use Rattle.art_attempt.specs.Inserting.{is_begun, making_left}
+use Rattle.art_attempt.specs.Inserting.{is_begun, apply_left}
 use Rattle.art_erase.specs.Erasing.{HasMade, StageFits, erased_at, erased_so, free_at, left_at}
 use Rattle.art_erase.specs.declared.erasing.Erased.{Erased}
-use Rattle.art_erase.specs.declared.erasing.Erased.TheVariants.{Anew}
+use Rattle.art_erase.specs.declared.erasing.Erased.TheVariants.{Restart}
 use Rattle.art_erase.specs.declared.erasing.Erasing.{Erasing}
 use Rattle.art_erase.specs.declared.erasing.Stage.{Stage as StageOf}
 use Rattle.art_make.proofs.Told.{allowed, few_steps}
-use Rattle.art_make.specs.Making.{fault_of}
+use Rattle.art_make.specs.Apply.{fault_of}
 use Rattle.art_step.specs.declared.faults.UpgradeFault.{UpgradeFault}
 use Rattle.art_step.specs.declared.faults.UpgradeFault.TheVariants.{Changed}
 
@@ -24,14 +26,16 @@ pub returns-in-None-clause-fits : goal.returns-in-None-clause-fits
 returns-in-None-clause-fits c z u v w asked room h is row =
     let m = c.args.self.now in
     let r = c.args.room.now in
-    let one = change_later z v w r.change.effects asked c.args.answer (making_asks_made r.change m.making asked is) (allowed z h.early v r.change m.making asked h.fits is) row in
-    let next : Erasing = record m { making = c.told.new.self } in
+    let one = change_later z v w r.change.effects asked c.args.answer (apply_asks_made r.change m.apply asked is) (allowed z h.early v r.change m.apply asked h.fits is) row in
+    let keeps = change_keeps z v w r.change.effects asked c.args.answer (apply_asks_made r.change m.apply asked is) (allowed z h.early v r.change m.apply asked h.fits is) row in
+    let next : Erasing = record m { apply = c.told.new.self } in
     let made : HasMade z u next r w = record {
       early = h.early;
       base = h.base;
       later = later_then h.early v w h.later one;
       spent = h.spent;
       locks = record { only = h.locks.only; each = h.locks.each };
+      chosen = goes_later z u m.position m.way r v w one.steps keeps h.chosen;
       has = h.has;
       plain = h.plain;
       leaf = h.leaf;
@@ -47,13 +51,15 @@ pub returns-in-Some-clause-fits : goal.returns-in-Some-clause-fits
 returns-in-Some-clause-fits c z u v w asked room h is row =
     let m = c.args.self.now in
     let r = c.args.room.now in
-    let one = change_later z v w r.change.effects asked c.args.answer (making_asks_made r.change m.making asked is) (allowed z h.early v r.change m.making asked h.fits is) row in
+    let one = change_later z v w r.change.effects asked c.args.answer (apply_asks_made r.change m.apply asked is) (allowed z h.early v r.change m.apply asked h.fits is) row in
+    let keeps = change_keeps z v w r.change.effects asked c.args.answer (apply_asks_made r.change m.apply asked is) (allowed z h.early v r.change m.apply asked h.fits is) row in
     c.made.ensures.fits z u w room (record {
       early = h.early;
       base = h.base;
       later = later_then h.early v w h.later one;
       spent = h.spent;
       locks = record { only = h.locks.only; each = h.locks.each };
+      chosen = goes_later z u m.position m.way r v w one.steps keeps h.chosen;
       has = h.has;
       plain = h.plain;
       leaf = h.leaf;
@@ -68,11 +74,11 @@ returns-in-None-clause-left c left begun =
     let q = c.requires.told in
     let h = q.6 in
     let next = c.told.new.self in
-    let few = few_steps q.0 h.early q.2 r.change m.making h.fits (still_made r.change m.making q.4 q.7) in
+    let few = few_steps q.0 h.early q.2 r.change m.apply h.fits (still_made r.change m.apply q.4 q.7) in
     let fits = c.told.ensures.fits q.0 h.early q.2 q.3 q.4 h.fits q.7 q.8 in
     let end = few_steps q.0 h.early q.3 r.change next fits (sym c.ended.ensures ∙ c.in-None.is) in
-    subst (λ (s : StageOf). left_at (left - steps_in c.args.answer) s next < making_left left m.making) (sym c.requires.stage)
-    (going_less left (steps_in c.args.answer) m.making next begun few (last_stays (fault_of m.making) (fault_of next) c.told.ensures.stays)
+    subst (λ (s : StageOf). left_at (left - steps_in c.args.answer) s next < apply_left left m.apply) (sym c.requires.stage)
+    (going_less left (steps_in c.args.answer) m.apply next begun few (last_stays (fault_of m.apply) (fault_of next) c.told.ensures.stays)
     (step_or_last c.args.answer (fault_of next) c.told.ensures.refused) c.told.ensures.steps end)
 
 pub returns-in-Some-clause-left : goal.returns-in-Some-clause-left
@@ -82,18 +88,18 @@ returns-in-Some-clause-left c left begun =
     let q = c.requires.told in
     let h = q.6 in
     let next = c.told.new.self in
-    let few = few_steps q.0 h.early q.2 r.change m.making h.fits (still_made r.change m.making q.4 q.7) in
-    subst (λ (s : StageOf). left_at (left - steps_in c.args.answer) s c.made.new.self.making < making_left left m.making) (sym c.made.ensures.stage)
-    (ended_less left (steps_in c.args.answer) r.gone.value m.making next begun few (last_stays (fault_of m.making) (fault_of next) c.told.ensures.stays)
+    let few = few_steps q.0 h.early q.2 r.change m.apply h.fits (still_made r.change m.apply q.4 q.7) in
+    subst (λ (s : StageOf). left_at (left - steps_in c.args.answer) s c.made.new.self.apply < apply_left left m.apply) (sym c.made.ensures.stage)
+    (ended_less left (steps_in c.args.answer) r.gone.value m.apply next begun few (last_stays (fault_of m.apply) (fault_of next) c.told.ensures.stays)
     (step_or_last c.args.answer (fault_of next) c.told.ensures.refused) c.in-Some.made (sym c.ended.ensures ∙ c.in-Some.is))
 
 pub returns-in-Some-clause-anew : goal.returns-in-Some-clause-anew
 returns-in-Some-clause-anew c anew =
     let made = c.in-Some.made in
     let value = c.args.room.now.gone.value in
-    let at : erased_so value made ≡ Anew = same_Some {A = Erased} (erased_so value made) Anew (sym (ap erased_at c.made.ensures.stage) ∙ anew) in
+    let at : erased_so value made ≡ Restart = same_Some {A = Erased} (erased_so value made) Restart (sym (ap erased_at c.made.ensures.stage) ∙ anew) in
     let why = anew_fault value made at in
-    (why.0, ap fault_of c.made.ensures.making ∙ fault_ended c.told.new.self (Changed why.0) (sym c.ended.ensures ∙ (c.in-Some.is ∙ ap (λ (r : Result ⊤ UpgradeFault). Some r) why.1)))
+    (why.0, ap fault_of c.made.ensures.apply ∙ fault_ended c.told.new.self (Changed why.0) (sym c.ended.ensures ∙ (c.in-Some.is ∙ ap (λ (r : Result ⊤ UpgradeFault). Some r) why.1)))
 
 pub returns-in-None-clause-over : goal.returns-in-None-clause-over
 returns-in-None-clause-over c free none =

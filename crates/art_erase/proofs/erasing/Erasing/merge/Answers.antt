@@ -9,19 +9,19 @@ pub returns-in_default-clause-fits : goal.returns-in_default-clause-fits
 returns-in_default-clause-fits c z u v room so lost known merges =
     let m = c.args.self.now in
     let r = c.args.room.now in
-    c.vouch.ensures.fits z u v room so lost (known, none_left z m.stand r.desk r.gone merges c.other_child.result c.in_default.is (c.other_child.ensures.other z))
+    c.vouch.ensures.fits z u v room so lost (known, none_left z m.position r.read_set r.gone merges c.other_child.result c.in_default.is (c.other_child.ensures.other z))
 
 pub returns-in-Leaf-clause-fits : goal.returns-in-Leaf-clause-fits
 returns-in-Leaf-clause-fits c z u v room so lost known merges =
     let m = c.args.self.now in
     let r = c.args.room.now in
-    let leaves = one_left z m.stand r.desk r.gone merges c.other_child.result c.in-Some.byte c.in-Some.link c.in-Some.is (c.other_child.ensures.other z) in
-    c.vouch-in-Leaf.ensures.fits z u v room so lost (known, (c.in-Some.byte, subst (λ (d : Link). LeavesOther z m.stand r.desk r.gone c.in-Some.byte d) c.in-Leaf.is leaves))
+    let leaves = one_left z m.position r.read_set r.gone merges c.other_child.result c.in-Some.byte c.in-Some.link c.in-Some.is (c.other_child.ensures.other z) in
+    c.vouch-in-Leaf.ensures.fits z u v room so lost (known, (c.in-Some.byte, subst (λ (d : Link). LeavesOther z m.position r.read_set r.gone c.in-Some.byte d) c.in-Leaf.is leaves))
 
 pub returns-in-Node-clause-fits : goal.returns-in-Node-clause-fits
 returns-in-Node-clause-fits c z u v room so lost known merges =
     let m = c.args.self.now in
     let r = c.args.room.now in
-    let leaves = one_left z m.stand r.desk r.gone merges c.other_child.result c.in-Some.byte c.in-Some.link c.in-Some.is (c.other_child.ensures.other z) in
-    c.lower.ensures.fits z u v r room so lost known merges (subst (λ (d : Link). NamesChild m.stand r.desk d) c.in-Node.is c.in-Some.ensures.named)
-    (subst (λ (d : Link). LeavesOther z m.stand r.desk r.gone c.in-Some.byte d) c.in-Node.is leaves)
+    let leaves = one_left z m.position r.read_set r.gone merges c.other_child.result c.in-Some.byte c.in-Some.link c.in-Some.is (c.other_child.ensures.other z) in
+    c.lower.ensures.fits z u v r room so lost known merges (subst (λ (d : Link). NamesChild m.position r.read_set d) c.in-Node.is c.in-Some.ensures.named)
+    (subst (λ (d : Link). LeavesOther z m.position r.read_set r.gone c.in-Some.byte d) c.in-Node.is leaves)

@@ -13,7 +13,7 @@ returns-clause-fits c z u r room still has =
         later = later_first u;
         spent = λ limited. omega arith;
         has = has;
-        fits = c.new.ensures.fits z r.gone.key.items (absent_of r.gone) r.desk u u (record { only = refl; free = still.free; pinned = still.pinned });
+        fits = c.new.ensures.fits z r.gone.key.items (absent_of r.gone) r.read_set u u (record { only = refl; free = still.free; pinned = still.pinned });
         going = c.new.ensures.going;
         exact = c.new.ensures.exact;
       };

@@ -9,24 +9,24 @@ returns-in-Finding-clause-asks c =
     let r = c.args.room.now in
     c.find_next.ensures.asks r ∙ sym (ap (λ (s : StageOf). asks_at s m r) c.in-Finding.is)
 
-pub returns-in-Supplying-clause-asks : goal.returns-in-Supplying-clause-asks
-returns-in-Supplying-clause-asks c =
+pub returns-in-Reserve-clause-asks : goal.returns-in-Reserve-clause-asks
+returns-in-Reserve-clause-asks c =
     let m = c.args.self.now in
     let r = c.args.room.now in
-    c.supply_next.ensures.asks c.in-Supplying.field-0 ∙ sym (ap (λ (s : StageOf). asks_at s m r) c.in-Supplying.is)
+    c.supply_next.ensures.asks c.in-Reserve.field-0 ∙ sym (ap (λ (s : StageOf). asks_at s m r) c.in-Reserve.is)
 
-pub returns-in-Supplying-clause-allowed : goal.returns-in-Supplying-clause-allowed
-returns-in-Supplying-clause-allowed c z u v fits =
+pub returns-in-Reserve-clause-allowed : goal.returns-in-Reserve-clause-allowed
+returns-in-Reserve-clause-allowed c z u v fits =
     let m = c.args.self.now in
     let r = c.args.room.now in
-    c.supply_next.ensures.allowed z u v c.in-Supplying.field-0 (absent r.gone) (subst (λ (s : StageOf). StageFits z u s m r v) c.in-Supplying.is fits.stage).0
+    c.supply_next.ensures.allowed z u v c.in-Reserve.field-0 (absent r.gone) (subst (λ (s : StageOf). StageFits z u s m r v) c.in-Reserve.is fits.stage).0
 
-pub returns-in-Supplying-clause-going : goal.returns-in-Supplying-clause-going
-returns-in-Supplying-clause-going c z u v fits going =
+pub returns-in-Reserve-clause-going : goal.returns-in-Reserve-clause-going
+returns-in-Reserve-clause-going c z u v fits going =
     let m = c.args.self.now in
     let r = c.args.room.now in
-    let stage = subst (λ (s : StageOf). StageFits z u s m r v) c.in-Supplying.is fits.stage in
-    c.supply_next.ensures.going z u v c.in-Supplying.field-0 stage.0 stage.1
+    let stage = subst (λ (s : StageOf). StageFits z u s m r v) c.in-Reserve.is fits.stage in
+    c.supply_next.ensures.going z u v c.in-Reserve.field-0 stage.0 stage.1
 
 pub returns-in-Reading-clause-asks : goal.returns-in-Reading-clause-asks
 returns-in-Reading-clause-asks c =
@@ -85,15 +85,15 @@ returns-in-Lowering-clause-going c z u v fits going =
     let stage = subst (λ (s : StageOf). StageFits z u s m r v) c.in-Lowering.is fits.stage in
     c.lower_next.ensures.going z u v r stage.0 stage.1
 
-pub returns-in-Making-clause-allowed : goal.returns-in-Making-clause-allowed
-returns-in-Making-clause-allowed c z u v fits =
+pub returns-in-Apply-clause-allowed : goal.returns-in-Apply-clause-allowed
+returns-in-Apply-clause-allowed c z u v fits =
     let m = c.args.self.now in
     let r = c.args.room.now in
-    c.make_next.ensures.allowed z u v (absent r.gone) (subst (λ (s : StageOf). StageFits z u s m r v) c.in-Making.is fits.stage).0
+    c.make_next.ensures.allowed z u v (absent r.gone) (subst (λ (s : StageOf). StageFits z u s m r v) c.in-Apply.is fits.stage).0
 
-pub returns-in-Making-clause-going : goal.returns-in-Making-clause-going
-returns-in-Making-clause-going c z u v fits going =
+pub returns-in-Apply-clause-going : goal.returns-in-Apply-clause-going
+returns-in-Apply-clause-going c z u v fits going =
     let m = c.args.self.now in
     let r = c.args.room.now in
-    let stage = subst (λ (s : StageOf). StageFits z u s m r v) c.in-Making.is fits.stage in
+    let stage = subst (λ (s : StageOf). StageFits z u s m r v) c.in-Apply.is fits.stage in
     c.make_next.ensures.going z u v stage.0 stage.1

@@ -1,6 +1,8 @@
 use Rattle.art_attempt.specs.declared.rooms.Room.{Room}
-use Rattle.art_erase.proofs.Vouched.{lower_each, lower_known, lower_locks, lower_merges, lower_other, lower_so}
+use Rattle.art_erase.proofs.Chosen.{goes_by}
+use Rattle.art_erase.proofs.Vouched.{lower_each, lower_known, lower_locks, lower_merges, lower_other, lower_so, lower_stood}
 use Rattle.art_erase.proofs.erasing.Erasing.plan_lowers.Goals as goal
+use Rattle.art_erase.specs.declared.erasing.Way.TheVariants as way
 
 pub plan_merge_node-requires-clause-other : goal.plan_merge_node-requires-clause-other
 plan_merge_node-requires-clause-other c =
@@ -32,5 +34,8 @@ returns-clause-fits c z u v room h is =
     } in
     c.begin.ensures.fits z u v (record { sizes = room.sizes; key = room.key }) (record { still = so.still; spent = so.spent; has = so.has })
     (record { planned = plan.planned c.if-not-plan_merge_node.false z v known.0 known.2 known.3; leaf = plan.leaf; deed = plan.deed })
+    (goes_by z u m.position m.way (way.Lowers c.in-Lowers.byte c.in-Lowers.node) then v c.in-Lowers.is h.found
+    (lower_stood z u m r v h c.in-Lowers.byte c.in-Lowers.node c.in-Lowers.is c.args.stamp is)
+    (lower_other z u m r v h c.in-Lowers.byte c.in-Lowers.node c.in-Lowers.is c.args.stamp is) (plan.targets c.if-not-plan_merge_node.false) (plan.effects c.if-not-plan_merge_node.false))
     (lower_locks z u m r v h c.in-Lowers.byte c.in-Lowers.node c.in-Lowers.is c.args.stamp is then.change (plan.locks c.if-not-plan_merge_node.false))
     (lower_each z u m r v h c.in-Lowers.byte c.in-Lowers.node c.in-Lowers.is c.args.stamp is)

@@ -1,10 +1,12 @@
-use Rattle.std.proofs.Common.{sym, ap, subst}
+use Rattle.std.proofs.Common.{sym, ap, refl, subst}
 use Rattle.art_attempt.specs.declared.rooms.Room.{Room}
 use Rattle.art_attempt.specs.ArtPlan.ChooseInsert.Plans.{LocksOnly}
-use Rattle.art_erase.proofs.Vouched.{seen_both, vouched_each, vouched_so, vouched_standing}
+use Rattle.art_erase.proofs.Chosen.{goes_by}
+use Rattle.art_erase.proofs.Vouched.{seen_both, seen_here, vouched_each, vouched_so, vouched_standing, vouched_stood}
 use Rattle.art_erase.proofs.erasing.Erasing.plan_merges.Goals as goal
-use Rattle.art_erase.specs.Erasing.{IsLockedBy, goes}
+use Rattle.art_erase.specs.Erasing.{IsChosen, IsLockedBy, goes}
 use Rattle.art_erase.specs.declared.erasing.Way.{Way as WayOf}
+use Rattle.art_machine.specs.declared.actions.Effects.{Effects}
 use Rattle.art_erase.specs.declared.erasing.Way.TheVariants as way
 
 pub plan_merge_leaf-requires-clause-seen : goal.plan_merge_leaf-requires-clause-seen
@@ -18,12 +20,15 @@ returns-clause-fits c z u v room h is =
     let r = c.args.room.now in
     let so = vouched_so z u m r v h is in
     let plan = c.plan_merge_leaf.ensures in
+    let stood = vouched_stood z u m r v h is in
+    let chosen = subst (λ (w : WayOf). IsChosen z w m.position r.read_set r.gone r.stock u v) c.requires.way h.chosen in
     let then : Room = record r { bodies = c.plan_merge_leaf.new.bodies; change = c.plan_merge_leaf.new.change } in
     c.begin.ensures.fits z u v (record { sizes = room.sizes; key = room.key }) (record { still = so.still; spent = so.spent; has = so.has })
     (record {
       planned = plan.planned z v (seen_both z u m r v h is (ap goes c.requires.way)) (vouched_standing z u m r v h is);
-      leaf = plan.leaf;
-      deed = plan.deed;
+      leaf = ap (λ (e : Effects). e.leaf) plan.effects;
+      deed = ap (λ (e : Effects). e.deed) plan.effects;
     })
-    (subst (λ (w : WayOf). LocksOnly (IsLockedBy w m.stand m.lowering) then.change) (sym c.requires.way) plan.locks)
+    (goes_by z u m.position m.way (way.Merges c.args.other) then v c.requires.way h.found stood (chosen.1.0, chosen.1.1 r.read_set refl (seen_here z u m r v h is)) plan.targets plan.effects)
+    (subst (λ (w : WayOf). LocksOnly (IsLockedBy w m.position m.lowering) then.change) (sym c.requires.way) plan.locks)
     (vouched_each z u m r v h is (way.Merges c.args.other) c.requires.way tt)

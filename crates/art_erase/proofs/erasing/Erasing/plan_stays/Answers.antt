@@ -1,10 +1,12 @@
-use Rattle.std.proofs.Common.{sym, subst}
+use Rattle.std.proofs.Common.{sym, subst, ap}
 use Rattle.art_attempt.specs.declared.rooms.Room.{Room}
 use Rattle.art_attempt.specs.ArtPlan.ChooseInsert.Plans.{LocksOnly}
-use Rattle.art_erase.proofs.Vouched.{seen_here, vouched_each, vouched_so, vouched_standing}
+use Rattle.art_erase.proofs.Chosen.{goes_by}
+use Rattle.art_erase.proofs.Vouched.{seen_here, vouched_each, vouched_so, vouched_standing, vouched_stood}
 use Rattle.art_erase.proofs.erasing.Erasing.plan_stays.Goals as goal
-use Rattle.art_erase.specs.Erasing.{IsLockedBy}
+use Rattle.art_erase.specs.Erasing.{IsChosen, IsLockedBy}
 use Rattle.art_erase.specs.declared.erasing.Way.{Way as WayOf}
+use Rattle.art_machine.specs.declared.actions.Effects.{Effects}
 use Rattle.art_erase.specs.declared.erasing.Way.TheVariants as way
 
 pub returns-clause-fits : goal.returns-clause-fits
@@ -13,8 +15,11 @@ returns-clause-fits c z u v room h is =
     let r = c.args.room.now in
     let so = vouched_so z u m r v h is in
     let plan = c.plan_drop.ensures in
+    let stood = vouched_stood z u m r v h is in
+    let stays = subst (λ (w : WayOf). IsChosen z w m.position r.read_set r.gone r.stock u v) c.requires.way h.chosen in
     let then : Room = record r { bodies = c.plan_drop.new.bodies; change = c.plan_drop.new.change } in
     c.begin.ensures.fits z u v (record { sizes = room.sizes; key = room.key }) (record { still = so.still; spent = so.spent; has = so.has })
-    (record { planned = plan.planned z v (seen_here z u m r v h is) (vouched_standing z u m r v h is); leaf = plan.leaf; deed = plan.deed })
-    (subst (λ (w : WayOf). LocksOnly (IsLockedBy w m.stand m.lowering) then.change) (sym c.requires.way) plan.locks)
+    (record { planned = plan.planned z v (seen_here z u m r v h is) (vouched_standing z u m r v h is); leaf = ap (λ (e : Effects). e.leaf) plan.effects; deed = ap (λ (e : Effects). e.deed) plan.effects })
+    (goes_by z u m.position m.way way.Stays then v c.requires.way h.found stood stays plan.targets plan.effects)
+    (subst (λ (w : WayOf). LocksOnly (IsLockedBy w m.position m.lowering) then.change) (sym c.requires.way) plan.locks)
     (vouched_each z u m r v h is way.Stays c.requires.way tt)

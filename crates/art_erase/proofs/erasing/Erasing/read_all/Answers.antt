@@ -56,7 +56,7 @@ loop-left-preserved g c =
     let a = c.in-Some.asked in
     let row : Answers z (telling d) a c.in-Some-look.answer v w = subst (λ (y : Sizes). Answers y (telling d) a c.in-Some-look.answer v w) i.sizes (c.in-Some-look.ensures.row d) in
     let is = sym c.next.ensures.asks ∙ c.in-Some.is in
-    let one = (look_counts z d a c.in-Some-look.answer v w (reads_look m.stand.stamp c.in-Reading.rereading a is) row).steps in
+    let one = (look_counts z d a c.in-Some-look.answer v w (reads_look m.position.stamp c.in-Reading.rereading a is) row).steps in
     let on : (u : View) → Fits z u m r v → Fits z u c.read_told.new.self c.read_told.new.room w = λ u fits.
     c.read_told.ensures.fits z u v w a fits.room ((reads_on z u m r v c.in-Reading.rereading c.in-Reading.is fits).0) is row in
     let made = i.made in

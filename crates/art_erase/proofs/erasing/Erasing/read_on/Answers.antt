@@ -1,7 +1,7 @@
 use Rattle.std.proofs.Common.{arith}
 use Rattle.art_erase.proofs.Vouched.{reading_so}
 use Rattle.art_erase.proofs.erasing.Erasing.read_on.Goals as goal
-use Rattle.art_find.specs.Desks.{node_of}
+use Rattle.art_find.specs.ReadSets.{node_of}
 
 pub merge-requires : goal.merge-requires
 merge-requires c = c.requires
@@ -10,4 +10,4 @@ pub returns-in-None-clause-fits : goal.returns-in-None-clause-fits
 returns-in-None-clause-fits c z u v room h =
     let r = c.args.room.now in
     c.merge.ensures.fits z u v room (reading_so z u h.early h.base r v h.later h.has h.reads.reads 21700 (λ limited. let spent = h.spent limited in omega (arith, spent))) (record { standing = h.reads.standing; found = h.found })
-    (c.next.ensures.all c.in-None.is z v (node_of r.desk) h.fits) h.merges
+    (c.next.ensures.all c.in-None.is z v (node_of r.read_set) h.fits) h.merges

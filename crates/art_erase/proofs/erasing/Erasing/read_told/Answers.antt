@@ -7,9 +7,9 @@ supply-requires c =
     let p = c.requires.told in
     let m = c.args.self.now in
     let r = c.args.room.now in
-    let desk = c.reread_node.new.self in
-    let noted : IsNotedBy m r c.args.rereading c.found.result c.reread_node.new.rereading desk = record { steps = c.reread_node.ensures.steps; above = c.reread_node.ensures.above; stays = c.reread_node.ensures.stays; fits = λ z v w. c.reread_node.ensures.fits z v w m.stand.stamp } in
-    let so = reread_shrinks p.0 p.1 m c.args.rereading c.reread_node.new.rereading r p.2 p.3 desk c.found.result p.4 c.args.answer p.6 c.requires.more p.7 p.8 c.found.ensures noted
+    let read_set = c.reread_node.new.self in
+    let noted : IsNotedBy m r c.args.rereading c.found.result c.reread_node.new.rereading read_set = record { steps = c.reread_node.ensures.steps; above = c.reread_node.ensures.above; stays = c.reread_node.ensures.stays; fits = λ z v w. c.reread_node.ensures.fits z v w m.position.stamp } in
+    let so = reread_shrinks p.0 p.1 m c.args.rereading c.reread_node.new.rereading r p.2 p.3 read_set c.found.result p.4 c.args.answer p.6 c.requires.more p.7 p.8 c.found.ensures noted
     c.in-Shrinks.layout (sym c.loss.ensures ∙ c.in-Shrinks.is) in
     (p.0, p.1, p.3, record { sizes = p.5.sizes; key = p.5.key }, record { still = so.still; spent = so.spent; has = so.has })
 
@@ -17,11 +17,11 @@ pub returns-in-Shrinks-clause-fits : goal.returns-in-Shrinks-clause-fits
 returns-in-Shrinks-clause-fits c z u v w asked room h is row =
     let m = c.args.self.now in
     let r = c.args.room.now in
-    let desk = c.reread_node.new.self in
-    let noted : IsNotedBy m r c.args.rereading c.found.result c.reread_node.new.rereading desk = record { steps = c.reread_node.ensures.steps; above = c.reread_node.ensures.above; stays = c.reread_node.ensures.stays; fits = λ z v w. c.reread_node.ensures.fits z v w m.stand.stamp } in
+    let read_set = c.reread_node.new.self in
+    let noted : IsNotedBy m r c.args.rereading c.found.result c.reread_node.new.rereading read_set = record { steps = c.reread_node.ensures.steps; above = c.reread_node.ensures.above; stays = c.reread_node.ensures.stays; fits = λ z v w. c.reread_node.ensures.fits z v w m.position.stamp } in
     let shrinks = sym c.loss.ensures ∙ c.in-Shrinks.is in
-    let so = reread_shrinks z u m c.args.rereading c.reread_node.new.rereading r v w desk c.found.result asked c.args.answer h c.requires.more is row c.found.ensures noted c.in-Shrinks.layout shrinks in
-    let lost = reread_lost z u m c.args.rereading c.reread_node.new.rereading r v w desk c.found.result asked c.args.answer h c.requires.more is row c.found.ensures noted in
+    let so = reread_shrinks z u m c.args.rereading c.reread_node.new.rereading r v w read_set c.found.result asked c.args.answer h c.requires.more is row c.found.ensures noted c.in-Shrinks.layout shrinks in
+    let lost = reread_lost z u m c.args.rereading c.reread_node.new.rereading r v w read_set c.found.result asked c.args.answer h c.requires.more is row c.found.ensures noted in
     c.supply.ensures.fits z u w (record { sizes = room.sizes; key = room.key }) (record { still = so.still; spent = so.spent; has = so.has })
     (record { standing = lost.standing; found = lost.found }) shrinks
 
@@ -29,10 +29,10 @@ pub returns-in-Leaf-clause-fits : goal.returns-in-Leaf-clause-fits
 returns-in-Leaf-clause-fits c z u v w asked room h is row =
     let m = c.args.self.now in
     let r = c.args.room.now in
-    let desk = c.reread_node.new.self in
-    let noted : IsNotedBy m r c.args.rereading c.found.result c.reread_node.new.rereading desk = record { steps = c.reread_node.ensures.steps; above = c.reread_node.ensures.above; stays = c.reread_node.ensures.stays; fits = λ z v w. c.reread_node.ensures.fits z v w m.stand.stamp } in
-    let so = reread_so z u m c.args.rereading c.reread_node.new.rereading r v w desk c.found.result asked c.args.answer h c.requires.more is row c.found.ensures noted in
-    let lost = reread_lost z u m c.args.rereading c.reread_node.new.rereading r v w desk c.found.result asked c.args.answer h c.requires.more is row c.found.ensures noted in
+    let read_set = c.reread_node.new.self in
+    let noted : IsNotedBy m r c.args.rereading c.found.result c.reread_node.new.rereading read_set = record { steps = c.reread_node.ensures.steps; above = c.reread_node.ensures.above; stays = c.reread_node.ensures.stays; fits = λ z v w. c.reread_node.ensures.fits z v w m.position.stamp } in
+    let so = reread_so z u m c.args.rereading c.reread_node.new.rereading r v w read_set c.found.result asked c.args.answer h c.requires.more is row c.found.ensures noted in
+    let lost = reread_lost z u m c.args.rereading c.reread_node.new.rereading r v w read_set c.found.result asked c.args.answer h c.requires.more is row c.found.ensures noted in
     c.vouch.ensures.fits z u w (record { sizes = room.sizes; key = room.key }) (record { still = so.still; spent = so.spent; has = so.has })
     (record { standing = lost.standing; found = lost.found }) (inl (sym c.loss.ensures ∙ c.in-Leaf.is))
 
@@ -40,9 +40,9 @@ pub returns-in-Merges-clause-fits : goal.returns-in-Merges-clause-fits
 returns-in-Merges-clause-fits c z u v w asked room h is row =
     let m = c.args.self.now in
     let r = c.args.room.now in
-    let desk = c.reread_node.new.self in
-    let noted : IsNotedBy m r c.args.rereading c.found.result c.reread_node.new.rereading desk = record { steps = c.reread_node.ensures.steps; above = c.reread_node.ensures.above; stays = c.reread_node.ensures.stays; fits = λ z v w. c.reread_node.ensures.fits z v w m.stand.stamp } in
-    let on = reread_on z u m c.args.rereading c.reread_node.new.rereading r v w desk c.found.result asked c.args.answer h c.requires.more is row c.found.ensures noted (sym c.loss.ensures ∙ c.in-Merges.is) in
+    let read_set = c.reread_node.new.self in
+    let noted : IsNotedBy m r c.args.rereading c.found.result c.reread_node.new.rereading read_set = record { steps = c.reread_node.ensures.steps; above = c.reread_node.ensures.above; stays = c.reread_node.ensures.stays; fits = λ z v w. c.reread_node.ensures.fits z v w m.position.stamp } in
+    let on = reread_on z u m c.args.rereading c.reread_node.new.rereading r v w read_set c.found.result asked c.args.answer h c.requires.more is row c.found.ensures noted (sym c.loss.ensures ∙ c.in-Merges.is) in
     c.read_on.ensures.fits z u w (record { sizes = room.sizes; key = room.key }) (record {
       early = on.early;
       base = on.base;

@@ -11,7 +11,7 @@ use Rattle.art_machine.proofs.Counting.{look_counts}
 use Rattle.art_machine.specs.Acting.{Answers, IsLook, telling}
 use Rattle.art_find.specs.Descents.{asks}
 use Rattle.art_machine.specs.declared.actions.Action.{Action}
-use Rattle.art_find.specs.declared.findings.Stand.{Stand}
+use Rattle.art_find.specs.declared.findings.Position.{Position}
 use Rattle.art_step.specs.declared.views.Sizes.{Sizes}
 use Rattle.art_step.specs.declared.views.View.{View}
 use Rattle.std.specs.Prelude.{Option}
@@ -28,8 +28,8 @@ look-requires g c =
     let r = c.args.room.now in
     let q = c.requires.fits in
     let f = is_finding z q.0 m r v c.in-Finding.is q.1 in
-    let at = sym c.stand.ensures.at ∙ c.in-Some.is in
-    let is : finding_asks m.finding ≡ Some c.check_of.result = ap (λ (o : Option Stand). asks_place o (asks m.finding.descent.stage)) at ∙ ap Some (sym c.check_of.ensures) in
+    let at = sym c.position.ensures.at ∙ c.in-Some.is in
+    let is : finding_asks m.finding ≡ Some c.check_of.result = ap (λ (o : Option Position). asks_place o (asks m.finding.descent.stage)) at ∙ ap Some (sym c.check_of.ensures) in
     record {
       allowed = may_look z (absent r.gone) v c.check_of.result (finding_allowed z q.0 m r v f c.check_of.result is);
     }
@@ -43,7 +43,7 @@ settled-requires g c =
     let r = c.args.room.now in
     let q = c.requires.fits in
     let f = is_finding z q.0 m r v c.in-Finding.is q.1 in
-    let at = sym c.stand.ensures.at ∙ c.in-Some.is in
+    let at = sym c.position.ensures.at ∙ c.in-Some.is in
     let row = subst (λ (a : Action). Answers z (telling (absent r.gone)) a c.in-Some-look.answer v w) c.check_of.ensures (c.in-Some-look.ensures.row (absent r.gone)) in
     (z, q.0, v, w, q.1.room, f, at, row)
 
@@ -55,7 +55,7 @@ returns-clause-fits g c = λ u fits.
     let m = c.args.self.now in
     let r = c.args.room.now in
     let f = is_finding z u m r v c.in-Finding.is fits in
-    let at = sym c.stand.ensures.at ∙ c.in-Some.is in
+    let at = sym c.position.ensures.at ∙ c.in-Some.is in
     let row = subst (λ (a : Action). Answers z (telling (absent r.gone)) a c.in-Some-look.answer v w) c.check_of.ensures (c.in-Some-look.ensures.row (absent r.gone)) in
     c.settled.ensures.fits z u v w fits.room f at row
 
@@ -65,6 +65,6 @@ returns-clause-made g c =
     let v = g.S.Steps.view c.args.steps.now in
     let w = g.S.Steps.view c.look.new.steps in
     let d = absent c.args.room.now.gone in
-    let one = (look_counts z d c.check_of.result c.in-Some-look.answer v w (subst IsLook (sym c.check_of.ensures) (check_look c.in-Some.stand.verdict c.in-Some.stand)) (c.in-Some-look.ensures.row d)).steps in
+    let one = (look_counts z d c.check_of.result c.in-Some-look.answer v w (subst IsLook (sym c.check_of.ensures) (check_look c.in-Some.position.verdict c.in-Some.position)) (c.in-Some-look.ensures.row d)).steps in
     let more = c.if-left-le1.false in
     omega (arith, one, more)

@@ -8,7 +8,7 @@ pub returns-clause-fits : goal.returns-clause-fits
 returns-clause-fits c z u v room so lost chosen =
     let m = c.args.self.now in
     let r = c.args.room.now in
-    let fits = c.new-self.ensures.fits z r.gone.key.items v (begins_vouching z u 21700 m.stand r v so lost) in
+    let fits = c.new-self.ensures.fits z r.gone.key.items v (begins_vouching z u 21700 m.position r v so lost) in
     record {
       room = room;
       stage = (
@@ -20,7 +20,7 @@ returns-clause-fits c z u v room so lost chosen =
           has = so.has;
           found = lost.found;
           chosen = chosen;
-          fits = subst (λ (b : Bool). VouchingFits z r.gone.key.items b m.stand c.new-self.result r.desk v v) c.goes.ensures fits;
+          fits = subst (λ (b : Bool). VouchingFits z r.gone.key.items b m.position c.new-self.result r.read_set v v) c.goes.ensures fits;
         },
         c.new-self.ensures.going,
       );

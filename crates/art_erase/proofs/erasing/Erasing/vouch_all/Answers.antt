@@ -21,7 +21,7 @@ look-requires g c =
     let h = has_vouched z i.here.0 m r v c.in-Vouching.is i.here.1 in
     record {
       allowed = subst (λ (y : Sizes). MayLook y (λ s. ⊤) v c.in-Some.asked) (sym i.sizes)
-          (c.in-Some.ensures.allowed z r.gone.key.items (goes m.way) r.desk h.early v h.fits);
+          (c.in-Some.ensures.allowed z r.gone.key.items (goes m.way) r.read_set h.early v h.fits);
     }
 
 pub vouch_told-requires-clause-told : goal.vouch_told-requires-clause-told
@@ -50,7 +50,7 @@ loop-left-preserved g c =
     let a = c.in-Some.asked in
     let row : Answers z (telling d) a c.in-Some-look.answer v w = subst (λ (y : Sizes). Answers y (telling d) a c.in-Some-look.answer v w) i.sizes (c.in-Some-look.ensures.row d) in
     let is = sym c.next.ensures.asks ∙ c.in-Some.is in
-    let one = (look_counts z d a c.in-Some-look.answer v w (vouch_asks_look m.stand m.vouching a is) row).steps in
+    let one = (look_counts z d a c.in-Some-look.answer v w (vouch_asks_look m.position m.vouching a is) row).steps in
     let on : (u : View) → Fits z u m r v → Fits z u c.vouch_told.new.self c.vouch_told.new.room w = λ u fits.
     c.vouch_told.ensures.fits z u v w a fits.room (has_vouched z u m r v c.in-Vouching.is fits) is row in
     let made = i.made in

@@ -4,7 +4,8 @@ use Rattle.art_attempt.proofs.Given.{vouch_asks_look}
 use Rattle.art_attempt.proofs.Steps.{cell_later}
 use Rattle.art_attempt.proofs.Tries.{later_then}
 use Rattle.art_attempt.specs.declared.rooms.Room.{Room}
-use Rattle.art_erase.proofs.Chosen.{chosen_stays}
+use Rattle.art_erase.proofs.Chosen.{chosen_later, chosen_stays}
+use Rattle.art_erase.proofs.Founds.{look_keeps}
 use Rattle.art_erase.proofs.Vouched.{vouched_changed}
 use Rattle.art_erase.proofs.erasing.Erasing.vouch_told.Goals as goal
 use Rattle.art_erase.specs.Erasing.{HasVouched, StageFits, absent}
@@ -21,10 +22,11 @@ plan-requires c =
     let r = c.args.room.now in
     let k = r.gone.key.items in
     let d = absent r.gone in
-    let one = cell_later q.0 d q.4 c.args.answer q.2 q.3 (vouch_asks_look m.stand m.vouching q.4 q.7) q.8 in
+    let one = cell_later q.0 d q.4 c.args.answer q.2 q.3 (vouch_asks_look m.position m.vouching q.4 q.7) q.8 in
+    let keeps = look_keeps q.0 d q.4 c.args.answer q.2 q.3 (vouch_asks_look m.position m.vouching q.4 q.7) q.8 in
     let next : Erasing = record m { vouching = c.told.new.self } in
-    let then : Room = record r { desk = c.told.new.desk } in
-    let fits = c.told.ensures.fits q.0 k d h.early q.2 q.3 q.4 (subst (λ (b : Bool). VouchFits q.0 k b m.stand m.vouching r.desk h.early q.2) (sym c.goes.ensures) h.fits) q.7 q.8 in
+    let then : Room = record r { read_set = c.told.new.read_set } in
+    let fits = c.told.ensures.fits q.0 k d h.early q.2 q.3 q.4 (subst (λ (b : Bool). VouchFits q.0 k b m.position m.vouching r.read_set h.early q.2) (sym c.goes.ensures) h.fits) q.7 q.8 in
     let vouched : HasVouched q.0 q.1 next then q.3 = record {
       early = h.early;
       base = h.base;
@@ -32,8 +34,8 @@ plan-requires c =
       spent = h.spent;
       has = h.has;
       found = h.found;
-      chosen = chosen_stays m.stand r.desk c.told.new.desk q.0 m.way r.gone r.stock q.1 h.early c.told.ensures.stays c.told.ensures.node h.chosen;
-      fits = subst (λ (b : Bool). VouchFits q.0 k b m.stand c.told.new.self c.told.new.desk h.early q.3) c.goes.ensures fits;
+      chosen = chosen_stays m.position r.read_set c.told.new.read_set q.0 m.way r.gone r.stock q.1 q.3 c.told.ensures.stays c.told.ensures.node (chosen_later q.2 q.3 keeps q.0 m.way m.position r.read_set r.gone r.stock q.1 h.chosen);
+      fits = subst (λ (b : Bool). VouchFits q.0 k b m.position c.told.new.self c.told.new.read_set h.early q.3) c.goes.ensures fits;
     } in
     (q.0, q.1, q.3, record { sizes = q.5.sizes; key = q.5.key }, vouched, sym c.ended.ensures.at ∙ (c.in-Some-Unchanged.is ∙ ap (λ (e : Vouched). Some e) c.in-Some-Unchanged.field-0-is))
 
@@ -43,10 +45,11 @@ returns-in-None-clause-fits c z u v w asked room h is row =
     let r = c.args.room.now in
     let k = r.gone.key.items in
     let d = absent r.gone in
-    let one = cell_later z d asked c.args.answer v w (vouch_asks_look m.stand m.vouching asked is) row in
+    let one = cell_later z d asked c.args.answer v w (vouch_asks_look m.position m.vouching asked is) row in
+    let keeps = look_keeps z d asked c.args.answer v w (vouch_asks_look m.position m.vouching asked is) row in
     let next : Erasing = record m { vouching = c.told.new.self } in
-    let then : Room = record r { desk = c.told.new.desk } in
-    let fits = c.told.ensures.fits z k d h.early v w asked (subst (λ (b : Bool). VouchFits z k b m.stand m.vouching r.desk h.early v) (sym c.goes.ensures) h.fits) is row in
+    let then : Room = record r { read_set = c.told.new.read_set } in
+    let fits = c.told.ensures.fits z k d h.early v w asked (subst (λ (b : Bool). VouchFits z k b m.position m.vouching r.read_set h.early v) (sym c.goes.ensures) h.fits) is row in
     let vouched : HasVouched z u next then w = record {
       early = h.early;
       base = h.base;
@@ -54,8 +57,8 @@ returns-in-None-clause-fits c z u v w asked room h is row =
       spent = h.spent;
       has = h.has;
       found = h.found;
-      chosen = chosen_stays m.stand r.desk c.told.new.desk z m.way r.gone r.stock u h.early c.told.ensures.stays c.told.ensures.node h.chosen;
-      fits = subst (λ (b : Bool). VouchFits z k b m.stand c.told.new.self c.told.new.desk h.early w) c.goes.ensures fits;
+      chosen = chosen_stays m.position r.read_set c.told.new.read_set z m.way r.gone r.stock u w c.told.ensures.stays c.told.ensures.node (chosen_later v w keeps z m.way m.position r.read_set r.gone r.stock u h.chosen);
+      fits = subst (λ (b : Bool). VouchFits z k b m.position c.told.new.self c.told.new.read_set h.early w) c.goes.ensures fits;
     } in
     record {
       room = record { sizes = room.sizes; key = room.key };
@@ -68,10 +71,11 @@ returns-in-Some-Changed-clause-fits c z u v w asked room h is row =
     let r = c.args.room.now in
     let k = r.gone.key.items in
     let d = absent r.gone in
-    let one = cell_later z d asked c.args.answer v w (vouch_asks_look m.stand m.vouching asked is) row in
+    let one = cell_later z d asked c.args.answer v w (vouch_asks_look m.position m.vouching asked is) row in
+    let keeps = look_keeps z d asked c.args.answer v w (vouch_asks_look m.position m.vouching asked is) row in
     let next : Erasing = record m { vouching = c.told.new.self } in
-    let then : Room = record r { desk = c.told.new.desk } in
-    let fits = c.told.ensures.fits z k d h.early v w asked (subst (λ (b : Bool). VouchFits z k b m.stand m.vouching r.desk h.early v) (sym c.goes.ensures) h.fits) is row in
+    let then : Room = record r { read_set = c.told.new.read_set } in
+    let fits = c.told.ensures.fits z k d h.early v w asked (subst (λ (b : Bool). VouchFits z k b m.position m.vouching r.read_set h.early v) (sym c.goes.ensures) h.fits) is row in
     let vouched : HasVouched z u next then w = record {
       early = h.early;
       base = h.base;
@@ -79,8 +83,8 @@ returns-in-Some-Changed-clause-fits c z u v w asked room h is row =
       spent = h.spent;
       has = h.has;
       found = h.found;
-      chosen = chosen_stays m.stand r.desk c.told.new.desk z m.way r.gone r.stock u h.early c.told.ensures.stays c.told.ensures.node h.chosen;
-      fits = subst (λ (b : Bool). VouchFits z k b m.stand c.told.new.self c.told.new.desk h.early w) c.goes.ensures fits;
+      chosen = chosen_stays m.position r.read_set c.told.new.read_set z m.way r.gone r.stock u w c.told.ensures.stays c.told.ensures.node (chosen_later v w keeps z m.way m.position r.read_set r.gone r.stock u h.chosen);
+      fits = subst (λ (b : Bool). VouchFits z k b m.position c.told.new.self c.told.new.read_set h.early w) c.goes.ensures fits;
     } in
     let so = vouched_changed z u next then w vouched (sym c.ended.ensures.at ∙ (c.in-Some-Changed.is ∙ ap (λ (e : Vouched). Some e) c.in-Some-Changed.field-0-is)) in
     record { room = record { sizes = room.sizes; key = room.key }; stage = (record { still = so.0.still; spent = so.0.spent; has = so.0.has }, so.1) }
@@ -91,10 +95,11 @@ returns-in-Some-Unchanged-clause-fits c z u v w asked room h is row =
     let r = c.args.room.now in
     let k = r.gone.key.items in
     let d = absent r.gone in
-    let one = cell_later z d asked c.args.answer v w (vouch_asks_look m.stand m.vouching asked is) row in
+    let one = cell_later z d asked c.args.answer v w (vouch_asks_look m.position m.vouching asked is) row in
+    let keeps = look_keeps z d asked c.args.answer v w (vouch_asks_look m.position m.vouching asked is) row in
     let next : Erasing = record m { vouching = c.told.new.self } in
-    let then : Room = record r { desk = c.told.new.desk } in
-    let fits = c.told.ensures.fits z k d h.early v w asked (subst (λ (b : Bool). VouchFits z k b m.stand m.vouching r.desk h.early v) (sym c.goes.ensures) h.fits) is row in
+    let then : Room = record r { read_set = c.told.new.read_set } in
+    let fits = c.told.ensures.fits z k d h.early v w asked (subst (λ (b : Bool). VouchFits z k b m.position m.vouching r.read_set h.early v) (sym c.goes.ensures) h.fits) is row in
     let vouched : HasVouched z u next then w = record {
       early = h.early;
       base = h.base;
@@ -102,8 +107,8 @@ returns-in-Some-Unchanged-clause-fits c z u v w asked room h is row =
       spent = h.spent;
       has = h.has;
       found = h.found;
-      chosen = chosen_stays m.stand r.desk c.told.new.desk z m.way r.gone r.stock u h.early c.told.ensures.stays c.told.ensures.node h.chosen;
-      fits = subst (λ (b : Bool). VouchFits z k b m.stand c.told.new.self c.told.new.desk h.early w) c.goes.ensures fits;
+      chosen = chosen_stays m.position r.read_set c.told.new.read_set z m.way r.gone r.stock u w c.told.ensures.stays c.told.ensures.node (chosen_later v w keeps z m.way m.position r.read_set r.gone r.stock u h.chosen);
+      fits = subst (λ (b : Bool). VouchFits z k b m.position c.told.new.self c.told.new.read_set h.early w) c.goes.ensures fits;
     } in
     c.plan.ensures.fits z u w (record { sizes = room.sizes; key = room.key }) vouched
     (sym c.ended.ensures.at ∙ (c.in-Some-Unchanged.is ∙ ap (λ (e : Vouched). Some e) c.in-Some-Unchanged.field-0-is))
@@ -116,7 +121,7 @@ returns-in-Some-Changed-clause-anew c anew =
     let h = q.6 in
     let k = r.gone.key.items in
     let d = absent r.gone in
-    let before = subst (λ (b : Bool). VouchFits q.0 k b m.stand m.vouching r.desk h.early q.2) (sym c.goes.ensures) h.fits in
+    let before = subst (λ (b : Bool). VouchFits q.0 k b m.position m.vouching r.read_set h.early q.2) (sym c.goes.ensures) h.fits in
     let after = c.told.ensures.fits q.0 k d h.early q.2 q.3 q.4 before q.7 q.8 in
-    changed_by q.0 k c.goes.result m.stand m.vouching c.told.new.self r.desk c.told.new.desk d q.4 c.args.answer h.early q.2 q.3 before after q.7 q.8
+    changed_by q.0 k c.goes.result m.position m.vouching c.told.new.self r.read_set c.told.new.read_set d q.4 c.args.answer h.early q.2 q.3 before after q.7 q.8
     (sym c.ended.ensures.at ∙ (c.in-Some-Changed.is ∙ ap (λ (e : Vouched). Some e) c.in-Some-Changed.field-0-is))

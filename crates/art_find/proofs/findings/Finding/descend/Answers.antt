@@ -14,14 +14,14 @@ loop-left-init g c =
       turn = c.requires.turn;
       less = omega arith;
       made = refl;
-      on = on_still z c.args.key.now c.args.self.now c.args.desk.now (g.S.Steps.view c.args.steps.now);
+      on = on_still z c.args.key.now c.args.self.now c.args.read_set.now (g.S.Steps.view c.args.steps.now);
     }
 
 pub look_on-requires-clause-fits : goal.look_on-requires-clause-fits
 look_on-requires-clause-fits g c =
     let l = c.loop-left in
     let q = c.requires.fits in
-    (q.0, q.1, subst (λ (z : Sizes). FindingFits z c.args.key.now q.0 l.self l.desk q.1 (g.S.Steps.view l.steps)) (sym l.invariant.sizes) (l.invariant.on.fits q.0 q.1 q.2))
+    (q.0, q.1, subst (λ (z : Sizes). FindingFits z c.args.key.now q.0 l.self l.read_set q.1 (g.S.Steps.view l.steps)) (sym l.invariant.sizes) (l.invariant.on.fits q.0 q.1 q.2))
 
 pub loop-left-preserved : goal.loop-left-preserved
 loop-left-preserved g c =
@@ -33,9 +33,9 @@ loop-left-preserved g c =
     let n = c.look_on.new in
     let w = g.S.Steps.view n.steps in
     let k = c.args.key.now in
-    let looked = subst (λ (y : Sizes). LookedOn y k c.in-Some.on l.self l.desk v n.self n.desk w) i.sizes c.in-Some.ensures.looked in
-    let here = on_looked z k l.self l.desk v n.self n.desk w (subst (λ (b : Bool). LookedOn z k b l.self l.desk v n.self n.desk w) c.if-not-on.false looked) in
-    let one = one_made z k c.in-Some.on l.self l.desk v n.self n.desk w looked in
+    let looked = subst (λ (y : Sizes). LookedOn y k c.in-Some.on l.self l.read_set v n.self n.read_set w) i.sizes c.in-Some.ensures.looked in
+    let here = on_looked z k l.self l.read_set v n.self n.read_set w (subst (λ (b : Bool). LookedOn z k b l.self l.read_set v n.self n.read_set w) c.if-not-on.false looked) in
+    let one = one_made z k c.in-Some.on l.self l.read_set v n.self n.read_set w looked in
     let more = c.loop-left-test.true in
     let made = i.made in
     let less = i.less in
@@ -45,13 +45,13 @@ loop-left-preserved g c =
       turn = omega (arith, more);
       less = omega (arith, less);
       made = omega (arith, made, one, more);
-      on = on_then z k c.args.self.now c.args.desk.now (g.S.Steps.view s) l.self l.desk v n.self n.desk w i.on here;
+      on = on_then z k c.args.self.now c.args.read_set.now (g.S.Steps.view s) l.self l.read_set v n.self n.read_set w i.on here;
     }
 
 pub returns-then-not-on-clause-made : goal.returns-then-not-on-clause-made
 returns-then-not-on-clause-made g c =
     let l = c.loop-left in
-    let one = one_made (g.S.Steps.sizes l.steps) c.args.key.now c.in-Some.on l.self l.desk (g.S.Steps.view l.steps) c.look_on.new.self c.look_on.new.desk (g.S.Steps.view c.look_on.new.steps) c.in-Some.ensures.looked in
+    let one = one_made (g.S.Steps.sizes l.steps) c.args.key.now c.in-Some.on l.self l.read_set (g.S.Steps.view l.steps) c.look_on.new.self c.look_on.new.read_set (g.S.Steps.view c.look_on.new.steps) c.in-Some.ensures.looked in
     let made = l.invariant.made in
     let more = c.loop-left-test.true in
     omega (arith, one, made, more)

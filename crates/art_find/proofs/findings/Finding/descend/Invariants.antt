@@ -10,7 +10,7 @@ invariant-loop-left g l = record {
   turn : 0 < l.left;
   less : l.left ≤ l.fn.left;
   made : (g.S.Steps.view l.steps).steps + l.left ≡ (g.S.Steps.view l.fn.steps).steps + l.fn.left;
-  on : WentOn (g.S.Steps.sizes l.fn.steps) l.fn.key l.fn.self l.fn.desk (g.S.Steps.view l.fn.steps) l.self l.desk (g.S.Steps.view l.steps);
+  on : WentOn (g.S.Steps.sizes l.fn.steps) l.fn.key l.fn.self l.fn.read_set (g.S.Steps.view l.fn.steps) l.self l.read_set (g.S.Steps.view l.steps);
 }
 
 abbrev pub decreases-loop-left : goal.decreases-loop-left

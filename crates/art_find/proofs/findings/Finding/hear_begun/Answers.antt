@@ -32,10 +32,10 @@ returns-in-Ok c = record {
         exact = c.began_at.ensures.exact;
         fits = λ what u before. c.began_at.ensures.fits z k what u v w asked before is row;
       } in
-      let keeps : Keeps (Begun (Ok y)) (asks m.descent.stage) (asks n.stage) n.depth m.above c.args.desk.now c.enter.new.self.above c.enter.new.desk =
-      subst (λ (o : Option Action). Enters o (asks n.stage) n.depth m.above c.args.desk.now c.enter.new.self.above c.enter.new.desk) (sym is) c.enter.ensures.enters in
-      looked_on z k true m c.enter.new.self c.args.desk.now c.enter.new.desk v w asked (Begun (Ok y)) is (λ d. row) refl
-      (heard z k true m c.enter.new.self c.args.desk.now c.enter.new.desk v w asked (Begun (Ok y)) is (λ d. row) n c.enter.ensures.descent came keeps);
+      let keeps : Keeps (Begun (Ok y)) (asks m.descent.stage) (asks n.stage) n.depth m.above c.args.read_set.now c.enter.new.self.above c.enter.new.read_set =
+      subst (λ (o : Option Action). Enters o (asks n.stage) n.depth m.above c.args.read_set.now c.enter.new.self.above c.enter.new.read_set) (sym is) c.enter.ensures.enters in
+      looked_on z k true m c.enter.new.self c.args.read_set.now c.enter.new.read_set v w asked (Begun (Ok y)) is (λ d. row) refl
+      (heard z k true m c.enter.new.self c.args.read_set.now c.enter.new.read_set v w asked (Begun (Ok y)) is (λ d. row) n c.enter.ensures.descent came keeps);
 }
 
 pub returns-in-Err : goal.returns-in-Err
@@ -56,9 +56,9 @@ returns-in-Err c = record {
         exact = c.failed.ensures.exact;
         fits = λ what u before. c.failed.ensures.fits z k what u w (begun_fails z k what m.descent u v w before c.args.cell e is row);
       } in
-      let keeps : Keeps (Begun (Err e)) (asks m.descent.stage) (asks n.stage) n.depth m.above c.args.desk.now m.above c.args.desk.now =
-      subst (λ (d : Descent). Enters (asks m.descent.stage) (asks d.stage) d.depth m.above c.args.desk.now m.above c.args.desk.now) (sym c.failed.ensures.start)
-      (subst (λ (o : Option Action). Enters o (Some (Begin cell.Anchor)) m.descent.depth m.above c.args.desk.now m.above c.args.desk.now) (sym is) (refl, refl)) in
-      looked_on z k false m next c.args.desk.now c.args.desk.now v w asked (Begun (Err e)) is (λ d. row) refl
-      (heard z k false m next c.args.desk.now c.args.desk.now v w asked (Begun (Err e)) is (λ d. row) n refl came keeps);
+      let keeps : Keeps (Begun (Err e)) (asks m.descent.stage) (asks n.stage) n.depth m.above c.args.read_set.now m.above c.args.read_set.now =
+      subst (λ (d : Descent). Enters (asks m.descent.stage) (asks d.stage) d.depth m.above c.args.read_set.now m.above c.args.read_set.now) (sym c.failed.ensures.start)
+      (subst (λ (o : Option Action). Enters o (Some (Begin cell.Anchor)) m.descent.depth m.above c.args.read_set.now m.above c.args.read_set.now) (sym is) (refl, refl)) in
+      looked_on z k false m next c.args.read_set.now c.args.read_set.now v w asked (Begun (Err e)) is (λ d. row) refl
+      (heard z k false m next c.args.read_set.now c.args.read_set.now v w asked (Begun (Err e)) is (λ d. row) n refl came keeps);
 }

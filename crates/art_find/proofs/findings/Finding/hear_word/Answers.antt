@@ -26,8 +26,8 @@ returns c = record {
       let word = c.args.word in
       let is = ap (λ (s : Stage). asks s) c.requires.at ∙ c.requires.asked in
       let came = word_came z k v w m.descent n asked word is (λ d. row) e.steps e.stays e.going e.exact e.fits in
-      let kept : IsHeard (asks m.descent.stage) word c.args.desk.now c.note.new.self = subst (λ (o : Option Action). IsHeard o word c.args.desk.now c.note.new.self) (sym is)
+      let kept : IsHeard (asks m.descent.stage) word c.args.read_set.now c.note.new.self = subst (λ (o : Option Action). IsHeard o word c.args.read_set.now c.note.new.self) (sym is)
       (record { node = c.note.ensures.node; above = c.note.ensures.above }) in
-      looked_on z k true m next c.args.desk.now c.note.new.self v w asked (Word word) is (λ d. row) refl
-      (heard z k true m next c.args.desk.now c.note.new.self v w asked (Word word) is (λ d. row) n refl came (refl, kept));
+      looked_on z k true m next c.args.read_set.now c.note.new.self v w asked (Word word) is (λ d. row) refl
+      (heard z k true m next c.args.read_set.now c.note.new.self v w asked (Word word) is (λ d. row) n refl came (refl, kept));
 }

@@ -28,7 +28,7 @@ read_leaf-word-requires-in-Bytes-clause-may g c =
     (may_look z c.args.key.now q.0 c.args.self.now q.1 q.2 v (ReadLeaf seen.stamp seen.leaf (2 + c.in-Bytes.number)) is q.3).1
 
 pub returns-in-Value-clause-looked : goal.returns-in-Value-clause-looked
-returns-in-Value-clause-looked g c = λ desk.
+returns-in-Value-clause-looked g c = λ read_set.
     let z = g.S.Steps.sizes c.args.steps.now in
     let v = g.S.Steps.view c.args.steps.now in
     let w = g.S.Steps.view c.read_leaf-word.new.self in
@@ -39,10 +39,10 @@ returns-in-Value-clause-looked g c = λ desk.
     let word = c.read_leaf-word.result in
     let row = c.read_leaf-word.ensures.row in
     let is = ap (λ (s : Stage). asks s) (sym c.stage.ensures ∙ c.in-Value.is) in
-    leaf_heard z k v w m n desk c.in-Value.stamp c.in-Value.leaf 0 word is row (word_came z k v w m.descent n (ReadLeaf c.in-Value.stamp c.in-Value.leaf 0) word is (λ d. row) e.steps e.stays e.going e.exact e.fits)
+    leaf_heard z k v w m n read_set c.in-Value.stamp c.in-Value.leaf 0 word is row (word_came z k v w m.descent n (ReadLeaf c.in-Value.stamp c.in-Value.leaf 0) word is (λ d. row) e.steps e.stays e.going e.exact e.fits)
 
 pub returns-in-Length-clause-looked : goal.returns-in-Length-clause-looked
-returns-in-Length-clause-looked g c = λ desk.
+returns-in-Length-clause-looked g c = λ read_set.
     let z = g.S.Steps.sizes c.args.steps.now in
     let v = g.S.Steps.view c.args.steps.now in
     let w = g.S.Steps.view c.read_leaf-word-in-Length.new.self in
@@ -53,10 +53,10 @@ returns-in-Length-clause-looked g c = λ desk.
     let word = c.read_leaf-word-in-Length.result in
     let row = c.read_leaf-word-in-Length.ensures.row in
     let is = ap (λ (s : Stage). asks s) (sym c.stage.ensures ∙ c.in-Length.is) in
-    leaf_heard z k v w m n desk c.in-Length.stamp c.in-Length.leaf 1 word is row (word_came z k v w m.descent n (ReadLeaf c.in-Length.stamp c.in-Length.leaf 1) word is (λ d. row) e.steps e.stays e.going e.exact e.fits)
+    leaf_heard z k v w m n read_set c.in-Length.stamp c.in-Length.leaf 1 word is row (word_came z k v w m.descent n (ReadLeaf c.in-Length.stamp c.in-Length.leaf 1) word is (λ d. row) e.steps e.stays e.going e.exact e.fits)
 
 pub returns-in-Bytes-clause-looked : goal.returns-in-Bytes-clause-looked
-returns-in-Bytes-clause-looked g c = λ desk.
+returns-in-Bytes-clause-looked g c = λ read_set.
     let z = g.S.Steps.sizes c.args.steps.now in
     let v = g.S.Steps.view c.args.steps.now in
     let w = g.S.Steps.view c.read_leaf-word-in-Bytes.new.self in
@@ -67,4 +67,4 @@ returns-in-Bytes-clause-looked g c = λ desk.
     let word = c.read_leaf-word-in-Bytes.result in
     let row = subst (λ (i : ℕ). read.LeafOutcome v w c.in-Bytes.seen.stamp c.in-Bytes.seen.leaf (2 + i) word) c.from.ensures c.read_leaf-word-in-Bytes.ensures.row in
     let is = ap (λ (s : Stage). asks s) (sym c.stage.ensures ∙ c.in-Bytes.is) in
-    leaf_heard z k v w m n desk c.in-Bytes.seen.stamp c.in-Bytes.seen.leaf (2 + c.in-Bytes.number) word is row (word_came z k v w m.descent n (ReadLeaf c.in-Bytes.seen.stamp c.in-Bytes.seen.leaf (2 + c.in-Bytes.number)) word is (λ d. row) e.steps e.stays e.going e.exact e.fits)
+    leaf_heard z k v w m n read_set c.in-Bytes.seen.stamp c.in-Bytes.seen.leaf (2 + c.in-Bytes.number) word is row (word_came z k v w m.descent n (ReadLeaf c.in-Bytes.seen.stamp c.in-Bytes.seen.leaf (2 + c.in-Bytes.number)) word is (λ d. row) e.steps e.stays e.going e.exact e.fits)

@@ -4,7 +4,7 @@ use Rattle.art_machine.specs.declared.actions.Action.TheVariants.{Read}
 use Rattle.art_find.proofs.Hearing.{may_look}
 use Rattle.art_find.proofs.Keeping.{cell_fits}
 use Rattle.art_find.specs.Findings.{FindingFits}
-use Rattle.art_find.specs.declared.desks.Desk.{Desk}
+use Rattle.art_find.specs.declared.read_sets.ReadSet.{ReadSet}
 use Rattle.art_find.specs.declared.findings.Finding.{Finding}
 use Rattle.art_step.specs.Steps.Read as read
 use Rattle.art_step.specs.WordPlaces.{IsInside}
@@ -15,10 +15,10 @@ use Rattle.art_step.specs.declared.views.View.{View}
 use Rattle.art_find.proofs.findings.Finding.read_on.Goals as goal
 
 -- the word that it asks for may be read, and is one of its cell
-module _ (z : Sizes) (k : List ℕ) (m : Finding) (desk : Desk) (v : View) (q : (what : Option ℕ → Deed) × (u : View) × FindingFits z k what m desk u v)
+module _ (z : Sizes) (k : List ℕ) (m : Finding) (read_set : ReadSet) (v : View) (q : (what : Option ℕ → Deed) × (u : View) × FindingFits z k what m read_set u v)
     (x : Stamp) (place : ℕ) (is : asks m.descent.stage ≡ Some (Read x place)) where
   may_read : IsInside z x.cell × read.May v x place
-  may_read = may_look z k q.0 m desk q.1 v (Read x place) is q.2
+  may_read = may_look z k q.0 m read_set q.1 v (Read x place) is q.2
 
   few_words : place < 266
   few_words =
@@ -28,12 +28,12 @@ module _ (z : Sizes) (k : List ℕ) (m : Finding) (desk : Desk) (v : View) (q : 
 
 pub read-word-requires-clause-inside : goal.read-word-requires-clause-inside
 read-word-requires-clause-inside g c =
-    (may_read (g.S.Steps.sizes c.args.steps.now) c.args.key.now c.args.self.now c.args.desk.now (g.S.Steps.view c.args.steps.now) c.requires.fits
+    (may_read (g.S.Steps.sizes c.args.steps.now) c.args.key.now c.args.self.now c.args.read_set.now (g.S.Steps.view c.args.steps.now) c.requires.fits
     c.in-Anchor.stamp 1 (ap asks (sym c.stage.ensures ∙ c.in-Anchor.is))).0
 
 pub read-word-requires-clause-may : goal.read-word-requires-clause-may
 read-word-requires-clause-may g c =
-    (may_read (g.S.Steps.sizes c.args.steps.now) c.args.key.now c.args.self.now c.args.desk.now (g.S.Steps.view c.args.steps.now) c.requires.fits
+    (may_read (g.S.Steps.sizes c.args.steps.now) c.args.key.now c.args.self.now c.args.read_set.now (g.S.Steps.view c.args.steps.now) c.requires.fits
     c.in-Anchor.stamp 1 (ap asks (sym c.stage.ensures ∙ c.in-Anchor.is))).1
 
 pub hear_word-requires-clause-few : goal.hear_word-requires-clause-few
@@ -47,7 +47,7 @@ hear_word-requires-clause-asked g c = refl
 
 pub hear_word-requires-clause-inside : goal.hear_word-requires-clause-inside
 hear_word-requires-clause-inside g c =
-    few_words (g.S.Steps.sizes c.args.steps.now) c.args.key.now c.args.self.now c.args.desk.now (g.S.Steps.view c.args.steps.now) c.requires.fits
+    few_words (g.S.Steps.sizes c.args.steps.now) c.args.key.now c.args.self.now c.args.read_set.now (g.S.Steps.view c.args.steps.now) c.requires.fits
     c.in-Anchor.stamp 1 (ap asks (sym c.stage.ensures ∙ c.in-Anchor.is))
 
 pub hear_word-requires-clause-fits : goal.hear_word-requires-clause-fits
@@ -65,12 +65,12 @@ returns-in-Anchor-clause-looked g c =
 
 pub read-word-requires-in-Header-clause-inside : goal.read-word-requires-in-Header-clause-inside
 read-word-requires-in-Header-clause-inside g c =
-    (may_read (g.S.Steps.sizes c.args.steps.now) c.args.key.now c.args.self.now c.args.desk.now (g.S.Steps.view c.args.steps.now) c.requires.fits
+    (may_read (g.S.Steps.sizes c.args.steps.now) c.args.key.now c.args.self.now c.args.read_set.now (g.S.Steps.view c.args.steps.now) c.requires.fits
     c.in-Header.stamp 1 (ap asks (sym c.stage.ensures ∙ c.in-Header.is))).0
 
 pub read-word-requires-in-Header-clause-may : goal.read-word-requires-in-Header-clause-may
 read-word-requires-in-Header-clause-may g c =
-    (may_read (g.S.Steps.sizes c.args.steps.now) c.args.key.now c.args.self.now c.args.desk.now (g.S.Steps.view c.args.steps.now) c.requires.fits
+    (may_read (g.S.Steps.sizes c.args.steps.now) c.args.key.now c.args.self.now c.args.read_set.now (g.S.Steps.view c.args.steps.now) c.requires.fits
     c.in-Header.stamp 1 (ap asks (sym c.stage.ensures ∙ c.in-Header.is))).1
 
 pub hear_word-requires-in-Header-clause-few : goal.hear_word-requires-in-Header-clause-few
@@ -84,7 +84,7 @@ hear_word-requires-in-Header-clause-asked g c = refl
 
 pub hear_word-requires-in-Header-clause-inside : goal.hear_word-requires-in-Header-clause-inside
 hear_word-requires-in-Header-clause-inside g c =
-    few_words (g.S.Steps.sizes c.args.steps.now) c.args.key.now c.args.self.now c.args.desk.now (g.S.Steps.view c.args.steps.now) c.requires.fits
+    few_words (g.S.Steps.sizes c.args.steps.now) c.args.key.now c.args.self.now c.args.read_set.now (g.S.Steps.view c.args.steps.now) c.requires.fits
     c.in-Header.stamp 1 (ap asks (sym c.stage.ensures ∙ c.in-Header.is))
 
 pub hear_word-requires-in-Header-clause-fits : goal.hear_word-requires-in-Header-clause-fits
@@ -102,12 +102,12 @@ returns-in-Header-clause-looked g c =
 
 pub read-word-requires-in-Prefix-clause-inside : goal.read-word-requires-in-Prefix-clause-inside
 read-word-requires-in-Prefix-clause-inside g c =
-    (may_read (g.S.Steps.sizes c.args.steps.now) c.args.key.now c.args.self.now c.args.desk.now (g.S.Steps.view c.args.steps.now) c.requires.fits
+    (may_read (g.S.Steps.sizes c.args.steps.now) c.args.key.now c.args.self.now c.args.read_set.now (g.S.Steps.view c.args.steps.now) c.requires.fits
     c.in-Prefix.seen.stamp (2 + c.from-place.result) (ap asks (sym c.stage.ensures ∙ c.in-Prefix.is) ∙ ap (λ (i : ℕ). Some (Read c.in-Prefix.seen.stamp (2 + i))) (sym c.from-place.ensures))).0
 
 pub read-word-requires-in-Prefix-clause-may : goal.read-word-requires-in-Prefix-clause-may
 read-word-requires-in-Prefix-clause-may g c =
-    (may_read (g.S.Steps.sizes c.args.steps.now) c.args.key.now c.args.self.now c.args.desk.now (g.S.Steps.view c.args.steps.now) c.requires.fits
+    (may_read (g.S.Steps.sizes c.args.steps.now) c.args.key.now c.args.self.now c.args.read_set.now (g.S.Steps.view c.args.steps.now) c.requires.fits
     c.in-Prefix.seen.stamp (2 + c.from-place.result) (ap asks (sym c.stage.ensures ∙ c.in-Prefix.is) ∙ ap (λ (i : ℕ). Some (Read c.in-Prefix.seen.stamp (2 + i))) (sym c.from-place.ensures))).1
 
 pub hear_word-requires-in-Prefix-clause-few : goal.hear_word-requires-in-Prefix-clause-few
@@ -121,7 +121,7 @@ hear_word-requires-in-Prefix-clause-asked g c = ap (λ (i : ℕ). Some (Read c.i
 
 pub hear_word-requires-in-Prefix-clause-inside : goal.hear_word-requires-in-Prefix-clause-inside
 hear_word-requires-in-Prefix-clause-inside g c =
-    few_words (g.S.Steps.sizes c.args.steps.now) c.args.key.now c.args.self.now c.args.desk.now (g.S.Steps.view c.args.steps.now) c.requires.fits
+    few_words (g.S.Steps.sizes c.args.steps.now) c.args.key.now c.args.self.now c.args.read_set.now (g.S.Steps.view c.args.steps.now) c.requires.fits
     c.in-Prefix.seen.stamp (2 + c.from-place.result) (ap asks (sym c.stage.ensures ∙ c.in-Prefix.is) ∙ ap (λ (i : ℕ). Some (Read c.in-Prefix.seen.stamp (2 + i))) (sym c.from-place.ensures))
 
 pub hear_word-requires-in-Prefix-clause-fits : goal.hear_word-requires-in-Prefix-clause-fits
@@ -139,12 +139,12 @@ returns-in-Prefix-clause-looked g c =
 
 pub read-word-requires-in-Keys-clause-inside : goal.read-word-requires-in-Keys-clause-inside
 read-word-requires-in-Keys-clause-inside g c =
-    (may_read (g.S.Steps.sizes c.args.steps.now) c.args.key.now c.args.self.now c.args.desk.now (g.S.Steps.view c.args.steps.now) c.requires.fits
+    (may_read (g.S.Steps.sizes c.args.steps.now) c.args.key.now c.args.self.now c.args.read_set.now (g.S.Steps.view c.args.steps.now) c.requires.fits
     c.in-Keys.seen.stamp (10 + c.from-place-in-Keys.result) (ap asks (sym c.stage.ensures ∙ c.in-Keys.is) ∙ ap (λ (i : ℕ). Some (Read c.in-Keys.seen.stamp (10 + i))) (sym c.from-place-in-Keys.ensures))).0
 
 pub read-word-requires-in-Keys-clause-may : goal.read-word-requires-in-Keys-clause-may
 read-word-requires-in-Keys-clause-may g c =
-    (may_read (g.S.Steps.sizes c.args.steps.now) c.args.key.now c.args.self.now c.args.desk.now (g.S.Steps.view c.args.steps.now) c.requires.fits
+    (may_read (g.S.Steps.sizes c.args.steps.now) c.args.key.now c.args.self.now c.args.read_set.now (g.S.Steps.view c.args.steps.now) c.requires.fits
     c.in-Keys.seen.stamp (10 + c.from-place-in-Keys.result) (ap asks (sym c.stage.ensures ∙ c.in-Keys.is) ∙ ap (λ (i : ℕ). Some (Read c.in-Keys.seen.stamp (10 + i))) (sym c.from-place-in-Keys.ensures))).1
 
 pub hear_word-requires-in-Keys-clause-few : goal.hear_word-requires-in-Keys-clause-few
@@ -158,7 +158,7 @@ hear_word-requires-in-Keys-clause-asked g c = ap (λ (i : ℕ). Some (Read c.in-
 
 pub hear_word-requires-in-Keys-clause-inside : goal.hear_word-requires-in-Keys-clause-inside
 hear_word-requires-in-Keys-clause-inside g c =
-    few_words (g.S.Steps.sizes c.args.steps.now) c.args.key.now c.args.self.now c.args.desk.now (g.S.Steps.view c.args.steps.now) c.requires.fits
+    few_words (g.S.Steps.sizes c.args.steps.now) c.args.key.now c.args.self.now c.args.read_set.now (g.S.Steps.view c.args.steps.now) c.requires.fits
     c.in-Keys.seen.stamp (10 + c.from-place-in-Keys.result) (ap asks (sym c.stage.ensures ∙ c.in-Keys.is) ∙ ap (λ (i : ℕ). Some (Read c.in-Keys.seen.stamp (10 + i))) (sym c.from-place-in-Keys.ensures))
 
 pub hear_word-requires-in-Keys-clause-fits : goal.hear_word-requires-in-Keys-clause-fits
@@ -176,12 +176,12 @@ returns-in-Keys-clause-looked g c =
 
 pub read-word-requires-in-Slot-clause-inside : goal.read-word-requires-in-Slot-clause-inside
 read-word-requires-in-Slot-clause-inside g c =
-    (may_read (g.S.Steps.sizes c.args.steps.now) c.args.key.now c.args.self.now c.args.desk.now (g.S.Steps.view c.args.steps.now) c.requires.fits
+    (may_read (g.S.Steps.sizes c.args.steps.now) c.args.key.now c.args.self.now c.args.read_set.now (g.S.Steps.view c.args.steps.now) c.requires.fits
     c.in-Slot.seen.stamp c.in-Slot.place (ap asks (sym c.stage.ensures ∙ c.in-Slot.is))).0
 
 pub read-word-requires-in-Slot-clause-may : goal.read-word-requires-in-Slot-clause-may
 read-word-requires-in-Slot-clause-may g c =
-    (may_read (g.S.Steps.sizes c.args.steps.now) c.args.key.now c.args.self.now c.args.desk.now (g.S.Steps.view c.args.steps.now) c.requires.fits
+    (may_read (g.S.Steps.sizes c.args.steps.now) c.args.key.now c.args.self.now c.args.read_set.now (g.S.Steps.view c.args.steps.now) c.requires.fits
     c.in-Slot.seen.stamp c.in-Slot.place (ap asks (sym c.stage.ensures ∙ c.in-Slot.is))).1
 
 pub hear_word-requires-in-Slot-clause-few : goal.hear_word-requires-in-Slot-clause-few
@@ -195,7 +195,7 @@ hear_word-requires-in-Slot-clause-asked g c = refl
 
 pub hear_word-requires-in-Slot-clause-inside : goal.hear_word-requires-in-Slot-clause-inside
 hear_word-requires-in-Slot-clause-inside g c =
-    few_words (g.S.Steps.sizes c.args.steps.now) c.args.key.now c.args.self.now c.args.desk.now (g.S.Steps.view c.args.steps.now) c.requires.fits
+    few_words (g.S.Steps.sizes c.args.steps.now) c.args.key.now c.args.self.now c.args.read_set.now (g.S.Steps.view c.args.steps.now) c.requires.fits
     c.in-Slot.seen.stamp c.in-Slot.place (ap asks (sym c.stage.ensures ∙ c.in-Slot.is))
 
 pub hear_word-requires-in-Slot-clause-fits : goal.hear_word-requires-in-Slot-clause-fits
@@ -217,10 +217,10 @@ read_leaf_on-requires-clause-few g c = c.requires.few
 pub read_leaf_on-requires-clause-fits : goal.read_leaf_on-requires-clause-fits
 read_leaf_on-requires-clause-fits g c =
     let q = c.requires.fits in
-    (q.0, c.args.desk.now, q.1, q.2)
+    (q.0, c.args.read_set.now, q.1, q.2)
 
 pub returns-in_default-clause-only : goal.returns-in_default-clause-only
 returns-in_default-clause-only g c = c.read_leaf_on.ensures.only
 
 pub returns-in_default-clause-looked : goal.returns-in_default-clause-looked
-returns-in_default-clause-looked g c = c.read_leaf_on.ensures.looked c.args.desk.now
+returns-in_default-clause-looked g c = c.read_leaf_on.ensures.looked c.args.read_set.now

@@ -18,12 +18,12 @@ returns-clause-fits c = λ z what u v w asked fits is row.
     let m' = c.told-on.new.self in
     let so : Cells → Type 0 = λ s. HasValue s k (answer_at m.stage) in
     let may : MayLook z so v asked = subst (λ (o : Option Action). IfSome o (MayLook z so v)) (c.next-asked.ensures.asks ∙ is) (c.next-asked.ensures.allowed z k what u v fits.descent) in
-    let keeps = subst (λ (o : Option Action). Keeps c.args.answer o (asks m'.stage) m'.depth c.args.self.now.above c.args.desk.now c.keep.new.self.above c.keep.new.desk) c.next-asked.ensures.asks c.keep.ensures.keeps in
+    let keeps = subst (λ (o : Option Action). Keeps c.args.answer o (asks m'.stage) m'.depth c.args.self.now.above c.args.read_set.now c.keep.new.self.above c.keep.new.read_set) c.next-asked.ensures.asks c.keep.ensures.keeps in
     let same : c.keep.new.self.descent ≡ m' = c.keep.ensures.descent in
     record {
       descent = subst (λ (t : Descent). Fits z k what t u w) (sym same) (c.told-on.ensures.fits z what u v w asked fits.descent is row);
-      place = subst (λ (t : Descent). PlaceFits z k c.keep.new.self.above c.keep.new.desk w (stands_on t.stage)) (sym same)
-          (told_fits z k what u v w c.args.self.now.above c.keep.new.self.above c.args.desk.now c.keep.new.desk m m' so asked is c.args.answer row may fits.descent
+      place = subst (λ (t : Descent). PlaceFits z k c.keep.new.self.above c.keep.new.read_set w (stands_on t.stage)) (sym same)
+          (told_fits z k what u v w c.args.self.now.above c.keep.new.self.above c.args.read_set.now c.keep.new.read_set m m' so asked is c.args.answer row may fits.descent
           c.told-on.ensures.stays (λ no. c.told-on.ensures.anew (c.told-on.ensures.on ∙ no)) keeps fits.place);
     }
 

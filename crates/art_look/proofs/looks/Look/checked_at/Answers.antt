@@ -19,12 +19,12 @@ returns-clause-fits c = λ z lo hi t u v w asked fits is row.
           subst (λ (g : LookStage). StageFits z lo hi m.depth g t u w) (sym (b.self-is ∙ b.below-self.ensures))
           (link_fits z lo hi m.depth t u v w x b.in-Child.link both.0 (both.1 (Check x) refl))
       | in-Both b ↦
-          let x = b.in-Both.field-0 in
+          let x = b.in-Both.above in
           let both = at_stage z lo hi m.depth t m.stage (Both x b.in-Both.stamp b.in-Both.node) asked (Checked (Ok tt)) u v w (c.requires.at ∙ b.in-Both.is) is fits row in
           subst (λ (g : LookStage). StageFits z lo hi m.depth g t u w) (sym b.self-is)
           (header_fits z lo hi m.depth t u v w x b.in-Both.stamp b.in-Both.node both.0 (both.1 (Check x) refl))
       | in-Decided b ↦
-          let x = b.in-Decided.field-0 in
+          let x = b.in-Decided.stamp in
           let both = at_stage z lo hi m.depth t m.stage (Decided x b.in-Decided.reach b.in-Decided.value) asked (Checked (Ok tt)) u v w (c.requires.at ∙ b.in-Decided.is) is fits row in
           subst (λ (g : LookStage). StageFits z lo hi m.depth g t u w) (sym b.self-is)
           (ended_fits z lo hi m.depth t u v w x b.in-Decided.reach b.in-Decided.value both.0 (both.1 (Settle x) refl))

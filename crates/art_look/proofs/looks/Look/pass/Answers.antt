@@ -2,7 +2,7 @@ use Rattle.std.proofs.Common.{◌≡◌, ◌<◌, ◌≤◌, ◌+◌, ◌*◌, �
 use Rattle.art_look.specs.Fronts.{IsFront, low_at}
 use Rattle.art_look.specs.Looks.{IsSought, StageFits, least_steps, most_steps}
 use Rattle.art_look.specs.declared.looks.LookStage.{LookStage}
-use Rattle.art_look.specs.declared.trails.Trail.{Trail}
+use Rattle.art_look.specs.declared.path_buffers.PathBuffer.{PathBuffer}
 use Rattle.art_look.proofs.Counting.{staged_first, staged_least}
 use Rattle.art_look.proofs.Stages.{before_fits, staged_fits}
 use Rattle.art_node.specs.Searches.{IsHeader, SoughtFromTells}
@@ -15,8 +15,8 @@ returns-in_default-clause-fits c = λ z hi u w on shows.
     let m = c.args.self.now in
     let lo = c.args.lo.now in
     let found = subst (λ (p : List ℕ). Before p lo × (Begins p lo → ⊥)) c.as_slice.ensures.value c.in_default.ensures in
-    let t : Trail = record { path = c.truncate.new.self; key = c.args.trail.now.key } in
-    before_fits z lo hi m.depth c.args.trail.now u w c.args.seen on t c.truncate.ensures.items (omega (arith, c.requires.short)) on.reads c.requires.front found.0 found.1 shows
+    let t : PathBuffer = record { path = c.truncate.new.self; key = c.args.path_buffer.now.key } in
+    before_fits z lo hi m.depth c.args.path_buffer.now u w c.args.seen on t c.truncate.ensures.items (omega (arith, c.requires.short)) on.reads c.requires.front found.0 found.1 shows
 
 pub returns-clause-steps : goal.returns-clause-steps
 returns-clause-steps c =
@@ -27,7 +27,7 @@ pub returns-clause-fits : goal.returns-clause-fits
 returns-clause-fits c = λ z hi u w on shows.
     let m = c.args.self.now in
     let lo = c.args.lo.now in
-    let t = c.args.trail.now in
+    let t = c.args.path_buffer.now in
     let seen = c.args.seen in
     let f = c.in-Some.front in
     let sought : IsSought lo m.depth t.path.items f = record {

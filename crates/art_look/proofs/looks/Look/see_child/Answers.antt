@@ -17,7 +17,7 @@ pub returns-in-None-clause-fits : goal.returns-in-None-clause-fits
 returns-in-None-clause-fits c = λ z hi u w on shows is noted.
     let m = c.args.self.now in
     let lo = c.args.lo.now in
-    let t = c.args.trail.now in
+    let t = c.args.path_buffer.now in
     subst (λ (g : LookStage). StageFits z lo hi m.depth g t u w) (sym c.next_child-self.ensures)
     (next_fits z lo hi m.depth t u w c.args.sought on c.requires.sought c.requires.low c.requires.byte c.args.word shows is (sym c.in-None.ensures))
 

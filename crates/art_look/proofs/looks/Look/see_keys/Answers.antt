@@ -17,7 +17,7 @@ pub returns-clause-fits : goal.returns-clause-fits
 returns-clause-fits c = λ z hi u w on shows is.
     let m = c.args.self.now in
     let lo = c.args.lo.now in
-    let t = c.args.trail.now in
+    let t = c.args.path_buffer.now in
     let seen = c.args.seen in
     let k = seen.node.layout in
     let low : c.low_at-low.result ≡ low_at c.args.front lo t.path.items = c.low_at-low.ensures ∙ ap (low_at c.args.front lo) c.as_slice.ensures.value in

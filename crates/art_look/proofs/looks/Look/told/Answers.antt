@@ -11,7 +11,7 @@ pub returns-in-Ok-clause-fits : goal.returns-in-Ok-clause-fits
 returns-in-Ok-clause-fits c = λ z hi u v w asked fits is row.
     let m = c.args.self.now in
     let lo = c.args.lo.now in
-    let t = c.args.trail.now in
+    let t = c.args.path_buffer.now in
     c.checked.ensures.fits z lo hi t u v w asked fits is
     (subst (λ (r : Result (Unit {0}) Changed). Answers z (telling (deed_at lo hi t m.stage)) asked (Checked r) v w) c.in-Ok.is
     (subst (λ (a : Answer). Answers z (telling (deed_at lo hi t m.stage)) asked a v w) c.in-Checked.is row))

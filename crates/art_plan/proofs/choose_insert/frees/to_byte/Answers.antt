@@ -5,7 +5,7 @@ use Rattle.art_plan.proofs.WholeCells.{kept_within}
 use Rattle.art_plan.specs.ChooseInsert.Bodies.{AreWithin, IsFilled}
 use Rattle.art_plan.specs.ChooseInsert.Plans.{IsLockedAt}
 use Rattle.art_plan.specs.Insert.Cases.{IsAdd}
-use Rattle.art_find.specs.Desks.{node_of}
+use Rattle.art_find.specs.ReadSets.{node_of}
 use Rattle.art_plan.specs.Puts.{IsFree}
 use Rattle.art_plan.specs.Seen.{kept, site_stamp}
 use Rattle.art_plan.specs.declared.sites.Site.{Site}
@@ -13,28 +13,28 @@ use Rattle.art_plan.proofs.choose_insert.frees.to_byte.Goals as goal
 
 pub add-requires : goal.add-requires
 add-requires c =
-    let t = c.args.stand.now in
+    let t = c.args.position.now in
     let key = c.args.new.now.key.items in
     let is = slot_named t.stamp _ c.as_slice-key.result.now key t.depth c.slot_at-site.result c.slot_at-site.ensures.slot c.as_slice-key.ensures.value in
     let filled = subst (λ (reads : List (Option ℕ)). IsFilled t.stamp.cell reads c.fill.new.body) c.node.ensures c.fill.ensures in
     let low = subst (λ (bytes : List ℕ). get_or bytes t.depth 0 < 256) c.as_slice-key.ensures.value c.slot_at-site.ensures.byte in
-    subst IsFree (sym is) (byte_room c.requires.seen.0 key t c.args.desk.now c.requires.free.0 c.requires.free.1 c.requires.free.2 c.requires.seen.1 c.fill.new.body filled low c.requires.room)
+    subst IsFree (sym is) (byte_room c.requires.seen.0 key t c.args.read_set.now c.requires.free.0 c.requires.free.1 c.requires.free.2 c.requires.seen.1 c.fill.new.body filled low c.requires.room)
 
 pub returns-clause-planned : goal.returns-clause-planned
 returns-clause-planned c = λ made z u seen standing hand needed.
-    let t = c.args.stand.now in
+    let t = c.args.position.now in
     let new = c.args.new.now in
     let is = slot_named t.stamp _ c.as_slice-key.result.now new.key.items t.depth c.slot_at-site.result c.slot_at-site.ensures.slot c.as_slice-key.ensures.value in
     let filled = subst (λ (reads : List (Option ℕ)). IsFilled t.stamp.cell reads c.fill.new.body) c.node.ensures c.fill.ensures in
     c.add.ensures.planned z u (t.depth + 1) (subst (λ (site : Site). IsAdd z u site new (t.depth + 1)) (sym is)
-    (byte_knows z t c.args.desk.now new c.requires.free.0 c.requires.free.1 c.requires.free.2 _ filled u seen standing hand))
+    (byte_knows z t c.args.read_set.now new c.requires.free.0 c.requires.free.1 c.requires.free.2 _ filled u seen standing hand))
 
 pub fill-requires : goal.fill-requires
 fill-requires c =
-    let t = c.args.stand.now in
+    let t = c.args.position.now in
     let old = c.requires.seen.1.vouched in
-    subst (AreWithin t.stamp.cell) (sym c.node.ensures) (kept_within c.requires.seen.0 old.view t.stamp (node_of c.args.desk.now) old.standing.place.kept)
+    subst (AreWithin t.stamp.cell) (sym c.node.ensures) (kept_within c.requires.seen.0 old.view t.stamp (node_of c.args.read_set.now) old.standing.place.kept)
 
 pub returns-clause-locks : goal.returns-clause-locks
 returns-clause-locks c =
-    one_locked (IsLockedAt c.args.stand.now) c.add.new.change (kept (site_stamp c.slot_at-site.result)) (inl (ap site_stamp c.slot_at-site.ensures.slot)) (c.add.ensures.locks)
+    one_locked (IsLockedAt c.args.position.now) c.add.new.change (kept (site_stamp c.slot_at-site.result)) (inl (ap site_stamp c.slot_at-site.ensures.slot)) (c.add.ensures.locks)

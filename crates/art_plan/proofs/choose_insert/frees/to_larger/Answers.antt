@@ -7,45 +7,47 @@ use Rattle.art_plan.proofs.LockedCells.{two_locked}
 use Rattle.art_plan.proofs.WholeCells.{above_kept, kept_within}
 use Rattle.art_plan.specs.ChooseInsert.Bodies.{AreWithin, IsFilled}
 use Rattle.art_plan.specs.ChooseInsert.Plans.{IsLockedAt}
-use Rattle.art_find.specs.Desks.{above_of, node_of}
+use Rattle.art_find.specs.ReadSets.{above_of, node_of}
 use Rattle.art_plan.specs.Puts.{IsCrowded, IsTaken}
 use Rattle.art_plan.specs.Seen.{gone, kept, site_stamp}
+use Rattle.art_plan.specs.Insert.Puts.{insert_effects}
+use Rattle.art_plan.proofs.FullNodes.{full_gives_way}
 use Rattle.art_plan.proofs.choose_insert.frees.to_larger.Goals as goal
 
 pub site_at-site-requires-clause-some : goal.site_at-site-requires-clause-some
 site_at-site-requires-clause-some c =
     let z = c.requires.seen.0 in
-    let t = c.args.stand.now in
+    let t = c.args.position.now in
     let key = c.args.new.now.key.items in
-    let desk = c.args.desk.now in
-    above_deep z key t desk c.in-Free.node (free_on z key t desk c.in-Free.node c.in-Free.field-1 c.in-Free.is c.requires.seen.1) c.in-Some.above c.in-Some.is (c.requires.seen.1.above c.in-Some.above c.in-Some.is c.requires.full)
+    let read_set = c.args.read_set.now in
+    above_deep z key t read_set c.in-NoChild.node (free_on z key t read_set c.in-NoChild.node c.in-NoChild.header c.in-NoChild.is c.requires.seen.1) c.in-Some.above c.in-Some.is (c.requires.seen.1.above c.in-Some.above c.in-Some.is c.requires.full)
 
 pub grow-requires-clause-taken : goal.grow-requires-clause-taken
 grow-requires-clause-taken c =
     let z = c.requires.seen.0 in
-    let t = c.args.stand.now in
+    let t = c.args.position.now in
     let a = c.in-Some.above in
     let key = c.args.new.now.key.items in
-    let desk = c.args.desk.now in
+    let read_set = c.args.read_set.now in
     let is = site_named a.stamp _ c.as_slice-key.result.now key a.depth c.site_at-site.result c.site_at-site.ensures.site c.as_slice-key.ensures.value in
     let filled = subst (λ (reads : List (Option ℕ)). IsFilled a.stamp.cell reads c.fill-2.new.body) c.above.ensures c.fill-2.ensures in
     subst IsTaken (sym is)
-    (above_taken z key t desk c.in-Free.node (free_on z key t desk c.in-Free.node c.in-Free.field-1 c.in-Free.is c.requires.seen.1) a c.in-Some.is (c.requires.seen.1.above a c.in-Some.is c.requires.full) _ filled)
+    (above_taken z key t read_set c.in-NoChild.node (free_on z key t read_set c.in-NoChild.node c.in-NoChild.header c.in-NoChild.is c.requires.seen.1) a c.in-Some.is (c.requires.seen.1.above a c.in-Some.is c.requires.full) _ filled)
 
 pub grow-requires-clause-crowded : goal.grow-requires-clause-crowded
 grow-requires-clause-crowded c =
     let z = c.requires.seen.0 in
-    let t = c.args.stand.now in
+    let t = c.args.position.now in
     let key = c.args.new.now.key.items in
     let filled = subst (λ (reads : List (Option ℕ)). IsFilled t.stamp.cell reads c.fill.new.body) c.node.ensures c.fill.ensures in
     let byte = c.byte_at-byte.ensures.byte ∙ ap (λ (bytes : List ℕ). get_or bytes t.depth 0) c.as_slice-key.ensures.value in
     let low = subst (λ (b : ℕ). b < 256) byte c.byte_at-byte.ensures.low in
     subst (IsCrowded c.fill.new.body) (sym byte)
-    (byte_crowded z key t c.args.desk.now c.in-Free.node c.in-Free.field-1 c.in-Free.is c.requires.seen.1 c.fill.new.body filled low c.requires.full)
+    (byte_crowded z key t c.args.read_set.now c.in-NoChild.node c.in-NoChild.header c.in-NoChild.is c.requires.seen.1 c.fill.new.body filled low c.requires.full)
 
 pub returns-clause-planned : goal.returns-clause-planned
 returns-clause-planned c = λ z u seen standing hand needed.
-    let t = c.args.stand.now in
+    let t = c.args.position.now in
     let a = c.in-Some.above in
     let new = c.args.new.now in
     let is = site_named a.stamp _ c.as_slice-key.result.now new.key.items a.depth c.site_at-site.result c.site_at-site.ensures.site c.as_slice-key.ensures.value in
@@ -53,30 +55,34 @@ returns-clause-planned c = λ z u seen standing hand needed.
     let lower = subst (λ (reads : List (Option ℕ)). IsFilled t.stamp.cell reads c.fill.new.body) c.node.ensures c.fill.ensures in
     let byte = c.byte_at-byte.ensures.byte ∙ ap (λ (bytes : List ℕ). get_or bytes t.depth 0) c.as_slice-key.ensures.value in
     c.grow.ensures.planned z u a.depth
-    (full_knows z t c.args.desk.now new c.in-Free.node c.in-Free.field-1 c.args.made c.in-Free.is a c.in-Some.is c.requires.full seen _ _ upper lower u c.site_at-site.result is standing hand needed
+    (full_knows z t c.args.read_set.now new c.in-NoChild.node c.in-NoChild.header c.args.made c.in-NoChild.is a c.in-Some.is c.requires.full seen _ _ upper lower u c.site_at-site.result is standing hand needed
     c.byte_at-byte.result byte)
 
 pub fill-requires : goal.fill-requires
 fill-requires c =
-    let t = c.args.stand.now in
+    let t = c.args.position.now in
     let old = c.requires.seen.1.vouched in
-    subst (AreWithin t.stamp.cell) (sym c.node.ensures) (kept_within c.requires.seen.0 old.view t.stamp (node_of c.args.desk.now) old.standing.place.kept)
+    subst (AreWithin t.stamp.cell) (sym c.node.ensures) (kept_within c.requires.seen.0 old.view t.stamp (node_of c.args.read_set.now) old.standing.place.kept)
 
 pub fill-requires-2 : goal.fill-requires-2
 fill-requires-2 c =
     let z = c.requires.seen.0 in
-    let t = c.args.stand.now in
+    let t = c.args.position.now in
     let a = c.in-Some.above in
     let key = c.args.new.now.key.items in
-    let desk = c.args.desk.now in
-    let n = c.in-Free.node in
+    let read_set = c.args.read_set.now in
+    let n = c.in-NoChild.node in
     let old = c.requires.seen.1.vouched in
     subst (AreWithin a.stamp.cell) (sym c.above.ensures)
-    (kept_within z old.view a.stamp (above_of desk) (above_kept z key t desk old.view old.standing n (free_on z key t desk n c.in-Free.field-1 c.in-Free.is c.requires.seen.1) a c.in-Some.is))
+    (kept_within z old.view a.stamp (above_of read_set) (above_kept z key t read_set old.view old.standing n (free_on z key t read_set n c.in-NoChild.header c.in-NoChild.is c.requires.seen.1) a c.in-Some.is))
 
 pub returns-clause-locks : goal.returns-clause-locks
 returns-clause-locks c =
-    let t = c.args.stand.now in
+    let t = c.args.position.now in
     let a = c.in-Some.above in
     let upper : site_stamp c.site_at-site.result ≡ a.stamp = ap site_stamp c.site_at-site.ensures.site ∙ stamp_in a.stamp _ _ in
     two_locked (IsLockedAt t) c.grow.new.change (kept (site_stamp c.site_at-site.result)) (inr (a, c.in-Some.is, c.requires.full, upper)) (gone t.stamp) (inl refl) (c.grow.ensures.locks)
+
+pub returns-clause-effects : goal.returns-clause-effects
+returns-clause-effects c = c.grow.ensures.effects ∙ ap (insert_effects c.args.new.now) (
+    sym (full_gives_way c.args.position.now c.in-NoChild.node c.in-NoChild.header c.in-NoChild.is c.requires.full))

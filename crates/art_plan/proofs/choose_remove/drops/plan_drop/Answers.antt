@@ -6,7 +6,7 @@ use Rattle.art_plan.proofs.ChildSites.{site_named, stamp_in}
 use Rattle.art_plan.proofs.LockedCells.{one_locked}
 use Rattle.art_plan.proofs.WholeCells.{kept_within}
 use Rattle.art_plan.specs.ChooseInsert.Bodies.{AreWithin, IsFilled}
-use Rattle.art_plan.specs.ArtFind.Desks.{node_of}
+use Rattle.art_plan.specs.ArtFind.ReadSets.{node_of}
 use Rattle.art_plan.specs.Puts.{IsTaken}
 use Rattle.art_plan.specs.Seen.{kept, site_stamp}
 use Rattle.art_plan.specs.declared.sites.Site.{Site}
@@ -16,37 +16,37 @@ use Rattle.art_plan.proofs.choose_remove.drops.plan_drop.Goals as goal
 
 pub fill-requires : goal.fill-requires
 fill-requires c =
-    let t = c.args.stand.now in
+    let t = c.args.position.now in
     let old = c.requires.seen.1.0 in
-    subst (AreWithin t.stamp.cell) (sym c.node.ensures) (kept_within c.requires.seen.0 old.view t.stamp (node_of c.args.desk.now) old.standing.place.kept)
+    subst (AreWithin t.stamp.cell) (sym c.node.ensures) (kept_within c.requires.seen.0 old.view t.stamp (node_of c.args.read_set.now) old.standing.place.kept)
 
 pub site_at-site-requires-clause-some : goal.site_at-site-requires-clause-some
-site_at-site-requires-clause-some c = found_deep c.requires.seen.0 c.args.stand.now c.args.desk.now c.args.old.now c.requires.found c.requires.seen.1
+site_at-site-requires-clause-some c = found_deep c.requires.seen.0 c.args.position.now c.args.read_set.now c.args.old.now c.requires.found c.requires.seen.1
 
 pub drop-requires-clause-taken : goal.drop-requires-clause-taken
 drop-requires-clause-taken c =
-    let t = c.args.stand.now in
+    let t = c.args.position.now in
     let is = site_named t.stamp _ c.as_slice.result.now c.args.old.now.key.items t.depth c.site_at-site.result c.site_at-site.ensures.site c.as_slice.ensures.value in
     let filled = subst (λ (reads : List (Option ℕ)). IsFilled t.stamp.cell reads c.fill.new.body) c.node.ensures c.fill.ensures in
-    subst IsTaken (sym is) (found_taken c.requires.seen.0 t c.args.desk.now c.args.old.now c.requires.found c.requires.seen.1 _ filled)
+    subst IsTaken (sym is) (found_taken c.requires.seen.0 t c.args.read_set.now c.args.old.now c.requires.found c.requires.seen.1 _ filled)
 
 pub drop-requires-clause-two : goal.drop-requires-clause-two
 drop-requires-clause-two c =
-    let t = c.args.stand.now in
+    let t = c.args.position.now in
     let filled = subst (λ (reads : List (Option ℕ)). IsFilled t.stamp.cell reads c.fill.new.body) c.node.ensures c.fill.ensures in
-    subst KeepsTwo (sym c.site_at-site.ensures.site) (keeps_two t c.args.desk.now _ _ filled c.requires.stays)
+    subst KeepsTwo (sym c.site_at-site.ensures.site) (keeps_two t c.args.read_set.now _ _ filled c.requires.stays)
 
 pub returns-clause-planned : goal.returns-clause-planned
 returns-clause-planned c = λ z u seen standing.
-    let t = c.args.stand.now in
+    let t = c.args.position.now in
     let old = c.args.old.now in
     let is = site_named t.stamp _ c.as_slice.result.now old.key.items t.depth c.site_at-site.result c.site_at-site.ensures.site c.as_slice.ensures.value in
     let filled = subst (λ (reads : List (Option ℕ)). IsFilled t.stamp.cell reads c.fill.new.body) c.node.ensures c.fill.ensures in
     let low = subst (λ (bytes : List ℕ). get_or bytes (t.depth - 1) 0 < 256) c.as_slice.ensures.value c.site_at-site.ensures.low in
-    c.drop.ensures.planned z u t.depth (subst (λ (site : Site). IsDrop z u site old t.depth) (sym is) (drop_knows z t c.args.desk.now old c.requires.found _ filled u seen standing low))
+    c.drop.ensures.planned z u t.depth (subst (λ (site : Site). IsDrop z u site old t.depth) (sym is) (drop_knows z t c.args.read_set.now old c.requires.found _ filled u seen standing low))
 
 pub returns-clause-locks : goal.returns-clause-locks
 returns-clause-locks c =
-    let t = c.args.stand.now in
+    let t = c.args.position.now in
     let upper : site_stamp c.site_at-site.result ≡ t.stamp = ap site_stamp c.site_at-site.ensures.site ∙ stamp_in t.stamp _ _ in
     one_locked (IsNodeAt t) c.drop.new.change (kept (site_stamp c.site_at-site.result)) upper (c.drop.ensures.locks)

@@ -6,16 +6,19 @@ use Rattle.art_plan.proofs.ChildSites.{site_named, stamp_in}
 use Rattle.art_plan.proofs.LockedCells.{three_locked}
 use Rattle.art_plan.proofs.WholeCells.{above_kept, kept_within}
 use Rattle.art_plan.specs.ChooseInsert.Bodies.{AreWithin, IsFilled}
-use Rattle.art_plan.specs.ArtFind.Desks.{above_of, node_of}
+use Rattle.art_plan.specs.ArtFind.ReadSets.{above_of, node_of}
 use Rattle.art_plan.specs.Puts.{IsTaken}
 use Rattle.art_plan.specs.Seen.{gone, kept, site_stamp}
+use Rattle.art_plan.specs.ChooseRemove.Plans.{node_words}
+use Rattle.art_plan.specs.Remove.Removals.{remove_effects}
+use Rattle.art_cell.specs.declared.cells.Cell.{Cell}
 use Rattle.art_plan.proofs.choose_remove.lowers.plan_merge_node.Goals as goal
 
 pub fill-requires : goal.fill-requires
 fill-requires c =
-    let t = c.args.stand.now in
+    let t = c.args.position.now in
     let old = c.requires.seen.1.node.0 in
-    subst (AreWithin t.stamp.cell) (sym c.node.ensures) (kept_within c.requires.seen.0 old.view t.stamp (node_of c.args.desk.now) old.standing.place.kept)
+    subst (AreWithin t.stamp.cell) (sym c.node.ensures) (kept_within c.requires.seen.0 old.view t.stamp (node_of c.args.read_set.now) old.standing.place.kept)
 
 pub fill-requires-2 : goal.fill-requires-2
 fill-requires-2 c =
@@ -23,8 +26,8 @@ fill-requires-2 c =
     let a = c.in-Some.above in
     let old = c.requires.seen.1.node.0 in
     subst (AreWithin a.stamp.cell) (sym c.above.ensures)
-    (kept_within z old.view a.stamp (above_of c.args.desk.now)
-    (above_kept z c.args.old.now.key.items c.args.stand.now c.args.desk.now old.view old.standing c.in-Node.node c.in-Node.is a c.in-Some.is))
+    (kept_within z old.view a.stamp (above_of c.args.read_set.now)
+    (above_kept z c.args.old.now.key.items c.args.position.now c.args.read_set.now old.view old.standing c.in-Node.node c.in-Node.is a c.in-Some.is))
 
 pub fill-requires-3 : goal.fill-requires-3
 fill-requires-3 c =
@@ -34,11 +37,11 @@ fill-requires-3 c =
 
 pub site_at-site-requires-clause-some : goal.site_at-site-requires-clause-some
 site_at-site-requires-clause-some c =
-    above_deep c.requires.seen.0 c.args.old.now.key.items c.args.stand.now c.args.desk.now c.in-Node.node c.in-Node.is c.in-Some.above c.in-Some.is (c.requires.seen.1.above c.in-Some.above c.in-Some.is)
+    above_deep c.requires.seen.0 c.args.old.now.key.items c.args.position.now c.args.read_set.now c.in-Node.node c.in-Node.is c.in-Some.above c.in-Some.is (c.requires.seen.1.above c.in-Some.above c.in-Some.is)
 
 pub parts_of-parts-requires-clause-front : goal.parts_of-parts-requires-clause-front
 parts_of-parts-requires-clause-front c =
-    node_bytes c.requires.seen.0 c.args.stand.now c.args.desk.now c.args.old.now c.requires.found c.requires.seen.1.node c.in-Node.node c.in-Node.is
+    node_bytes c.requires.seen.0 c.args.position.now c.args.read_set.now c.args.old.now c.requires.found c.requires.seen.1.node c.in-Node.node c.in-Node.is
 
 pub parts_of-parts-requires-clause-rest : goal.parts_of-parts-requires-clause-rest
 parts_of-parts-requires-clause-rest c = lower_bytes c.requires.seen.0 c.args.lower.now c.args.reads.now c.requires.seen.2
@@ -49,14 +52,14 @@ merge_node-requires-clause-taken c =
     let is = site_named a.stamp _ c.as_slice.result.now c.args.old.now.key.items a.depth c.site_at-site.result c.site_at-site.ensures.site c.as_slice.ensures.value in
     let filled = subst (λ (reads : List (Option ℕ)). IsFilled a.stamp.cell reads c.fill-2.new.body) c.above.ensures c.fill-2.ensures in
     subst IsTaken (sym is)
-    (above_taken c.requires.seen.0 c.args.old.now.key.items c.args.stand.now c.args.desk.now c.in-Node.node c.in-Node.is a c.in-Some.is (c.requires.seen.1.above a c.in-Some.is) _ filled)
+    (above_taken c.requires.seen.0 c.args.old.now.key.items c.args.position.now c.args.read_set.now c.in-Node.node c.in-Node.is a c.in-Some.is (c.requires.seen.1.above a c.in-Some.is) _ filled)
 
 pub merge_node-requires-clause-meaning : goal.merge_node-requires-clause-meaning
 merge_node-requires-clause-meaning c = lower_meaning c.requires.seen.0 c.args.lower.now c.args.reads.now c.requires.seen.2 c.fill-3.new.body c.fill-3.ensures
 
 pub returns-then-merge_node-clause-planned : goal.returns-then-merge_node-clause-planned
 returns-then-merge_node-clause-planned c = λ apart z u seen standing still.
-    let t = c.args.stand.now in
+    let t = c.args.position.now in
     let a = c.in-Some.above in
     let old = c.args.old.now in
     let lower = c.args.lower.now in
@@ -65,7 +68,7 @@ returns-then-merge_node-clause-planned c = λ apart z u seen standing still.
     let filled = subst (λ (reads : List (Option ℕ)). IsFilled t.stamp.cell reads c.fill.new.body) c.node.ensures c.fill.ensures in
     let low = subst (λ (bytes : List ℕ). get_or bytes (a.depth - 1) 0 < 256) c.as_slice.ensures.value c.site_at-site.ensures.low in
     c.merge_node.ensures.planned c.if-merge_node.true z u a.depth (get_or old.key.items (t.depth - 1) 0)
-    (merge_node_knows t c.args.desk.now old a c.in-Some.is _ upper c.site_at-site.result is lower c.args.reads.now still.cell c.parts_of-parts.result c.parts_of-parts.ensures _ c.fill-3.ensures
+    (merge_node_knows t c.args.read_set.now old a c.in-Some.is _ upper c.site_at-site.result is lower c.args.reads.now still.cell c.parts_of-parts.result c.parts_of-parts.ensures _ c.fill-3.ensures
     z u c.requires.found c.in-Node.node c.in-Node.is c.requires.other _ filled seen standing still c.requires.seen.2.whole low (search rules))
 
 pub returns-then-merge_node-clause-refused : goal.returns-then-merge_node-clause-refused
@@ -76,9 +79,12 @@ returns-else-merge_node-clause-refused c = λ refused. inr (c.parts_of-parts.res
 
 pub returns-then-merge_node-clause-locks : goal.returns-then-merge_node-clause-locks
 returns-then-merge_node-clause-locks c = λ apart.
-    let t = c.args.stand.now in
+    let t = c.args.position.now in
     let a = c.in-Some.above in
     let lower = c.args.lower.now in
     let upper : site_stamp c.site_at-site.result ≡ a.stamp = ap site_stamp c.site_at-site.ensures.site ∙ stamp_in a.stamp _ _ in
     three_locked (IsAnyAt t lower) c.merge_node.new.change (kept (site_stamp c.site_at-site.result)) (inl (inr (a, c.in-Some.is, upper))) (gone t.stamp) (inl (inl refl)) (kept lower.stamp) (inr refl)
     (c.merge_node.ensures.locks c.if-merge_node.true)
+
+pub returns-then-merge_node-clause-effects : goal.returns-then-merge_node-clause-effects
+returns-then-merge_node-clause-effects c = λ done. c.merge_node.ensures.effects c.if-merge_node.true ∙ ap (λ (x : Cell). remove_effects c.args.old.now (node_words x)) (sym c.in-Node.is)

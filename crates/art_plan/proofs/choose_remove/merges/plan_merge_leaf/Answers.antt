@@ -6,16 +6,19 @@ use Rattle.art_plan.proofs.ChildSites.{site_named, stamp_in}
 use Rattle.art_plan.proofs.LockedCells.{two_locked}
 use Rattle.art_plan.proofs.WholeCells.{above_kept, kept_within}
 use Rattle.art_plan.specs.ChooseInsert.Bodies.{AreWithin, IsFilled}
-use Rattle.art_plan.specs.ArtFind.Desks.{above_of, node_of}
+use Rattle.art_plan.specs.ArtFind.ReadSets.{above_of, node_of}
 use Rattle.art_plan.specs.Puts.{IsTaken}
 use Rattle.art_plan.specs.Seen.{gone, kept, site_stamp}
+use Rattle.art_plan.specs.ChooseRemove.Plans.{node_words}
+use Rattle.art_plan.specs.Remove.Removals.{remove_effects}
+use Rattle.art_cell.specs.declared.cells.Cell.{Cell}
 use Rattle.art_plan.proofs.choose_remove.merges.plan_merge_leaf.Goals as goal
 
 pub fill-requires : goal.fill-requires
 fill-requires c =
-    let t = c.args.stand.now in
+    let t = c.args.position.now in
     let old = c.requires.seen.1.node.0 in
-    subst (AreWithin t.stamp.cell) (sym c.node.ensures) (kept_within c.requires.seen.0 old.view t.stamp (node_of c.args.desk.now) old.standing.place.kept)
+    subst (AreWithin t.stamp.cell) (sym c.node.ensures) (kept_within c.requires.seen.0 old.view t.stamp (node_of c.args.read_set.now) old.standing.place.kept)
 
 pub fill-requires-2 : goal.fill-requires-2
 fill-requires-2 c =
@@ -23,12 +26,12 @@ fill-requires-2 c =
     let a = c.in-Some.above in
     let old = c.requires.seen.1.node.0 in
     subst (AreWithin a.stamp.cell) (sym c.above.ensures)
-    (kept_within z old.view a.stamp (above_of c.args.desk.now)
-    (above_kept z c.args.old.now.key.items c.args.stand.now c.args.desk.now old.view old.standing c.in-Node.node c.in-Node.is a c.in-Some.is))
+    (kept_within z old.view a.stamp (above_of c.args.read_set.now)
+    (above_kept z c.args.old.now.key.items c.args.position.now c.args.read_set.now old.view old.standing c.in-Node.node c.in-Node.is a c.in-Some.is))
 
 pub site_at-site-requires-clause-some : goal.site_at-site-requires-clause-some
 site_at-site-requires-clause-some c =
-    above_deep c.requires.seen.0 c.args.old.now.key.items c.args.stand.now c.args.desk.now c.in-Node.node c.in-Node.is c.in-Some.above c.in-Some.is (c.requires.seen.1.above c.in-Some.above c.in-Some.is)
+    above_deep c.requires.seen.0 c.args.old.now.key.items c.args.position.now c.args.read_set.now c.in-Node.node c.in-Node.is c.in-Some.above c.in-Some.is (c.requires.seen.1.above c.in-Some.above c.in-Some.is)
 
 pub merge_leaf-requires : goal.merge_leaf-requires
 merge_leaf-requires c =
@@ -36,11 +39,11 @@ merge_leaf-requires c =
     let is = site_named a.stamp _ c.as_slice-key.result.now c.args.old.now.key.items a.depth c.site_at-site.result c.site_at-site.ensures.site c.as_slice-key.ensures.value in
     let filled = subst (λ (reads : List (Option ℕ)). IsFilled a.stamp.cell reads c.fill-2.new.body) c.above.ensures c.fill-2.ensures in
     subst IsTaken (sym is)
-    (above_taken c.requires.seen.0 c.args.old.now.key.items c.args.stand.now c.args.desk.now c.in-Node.node c.in-Node.is a c.in-Some.is (c.requires.seen.1.above a c.in-Some.is) _ filled)
+    (above_taken c.requires.seen.0 c.args.old.now.key.items c.args.position.now c.args.read_set.now c.in-Node.node c.in-Node.is a c.in-Some.is (c.requires.seen.1.above a c.in-Some.is) _ filled)
 
 pub returns-clause-planned : goal.returns-clause-planned
 returns-clause-planned c = λ z u seen standing.
-    let t = c.args.stand.now in
+    let t = c.args.position.now in
     let a = c.in-Some.above in
     let old = c.args.old.now in
     let is = site_named a.stamp _ c.as_slice-key.result.now old.key.items a.depth c.site_at-site.result c.site_at-site.ensures.site c.as_slice-key.ensures.value in
@@ -48,11 +51,14 @@ returns-clause-planned c = λ z u seen standing.
     let lower = subst (λ (reads : List (Option ℕ)). IsFilled t.stamp.cell reads c.fill.new.body) c.node.ensures c.fill.ensures in
     let low = subst (λ (bytes : List ℕ). get_or bytes (a.depth - 1) 0 < 256) c.as_slice-key.ensures.value c.site_at-site.ensures.low in
     c.merge_leaf.ensures.planned z u a.depth (get_or old.key.items (t.depth - 1) 0) c.requires.other.0
-    (merge_leaf_knows t c.args.desk.now old a c.in-Some.is _ upper c.site_at-site.result is z u c.requires.found c.in-Node.node c.in-Node.is c.requires.other.0 c.args.other c.requires.other.1 _ lower seen standing low)
+    (merge_leaf_knows t c.args.read_set.now old a c.in-Some.is _ upper c.site_at-site.result is z u c.requires.found c.in-Node.node c.in-Node.is c.requires.other.0 c.args.other c.requires.other.1 _ lower seen standing low)
 
 pub returns-clause-locks : goal.returns-clause-locks
 returns-clause-locks c =
-    let t = c.args.stand.now in
+    let t = c.args.position.now in
     let a = c.in-Some.above in
     let upper : site_stamp c.site_at-site.result ≡ a.stamp = ap site_stamp c.site_at-site.ensures.site ∙ stamp_in a.stamp _ _ in
     two_locked (IsEitherAt t) c.merge_leaf.new.change (kept (site_stamp c.site_at-site.result)) (inr (a, c.in-Some.is, upper)) (gone t.stamp) (inl refl) (c.merge_leaf.ensures.locks)
+
+pub returns-clause-effects : goal.returns-clause-effects
+returns-clause-effects c = c.merge_leaf.ensures.effects ∙ ap (λ (x : Cell). remove_effects c.args.old.now (node_words x)) (sym c.in-Node.is)

@@ -30,11 +30,8 @@ returns-clause-planned c = λ z u depth knows.
     c.put.ensures ∙ ap (with_puts_of 0) (filled (goal.at.returns-clause-planned c).After-lock) in
     subst (IsPlanned z u) (sym is) (add_planned z u site new depth body writes knows (subst (λ w. IsSitePlan site w writes) c.child_word.ensures c.added.ensures.plan) (free_meaning site c.requires))
 
-pub returns-clause-deed : goal.returns-clause-deed
-returns-clause-deed c = ap (λ (ch : Change). ch.effects.deed) (c.put.ensures ∙ ap (with_puts_of 0) (filled (goal.at.returns-clause-deed c).After-lock))
-
-pub returns-clause-leaf : goal.returns-clause-leaf
-returns-clause-leaf c = ap (λ (ch : Change). ch.effects.leaf) (c.put.ensures ∙ ap (with_puts_of 0) (filled (goal.at.returns-clause-leaf c).After-lock))
+pub returns-clause-effects : goal.returns-clause-effects
+returns-clause-effects c = ap (λ (ch : Change). ch.effects) (c.put.ensures ∙ ap (with_puts_of 0) (filled (goal.at.returns-clause-effects c).After-lock))
 
 pub returns-clause-locks : goal.returns-clause-locks
 returns-clause-locks c = ap (λ (ch : Change). ch.targets.items) (c.put.ensures ∙ ap (with_puts_of 0) (filled (goal.at.returns-clause-locks c).After-lock))

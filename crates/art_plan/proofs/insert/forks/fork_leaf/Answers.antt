@@ -41,11 +41,8 @@ returns-clause-planned c = λ z u knows.
     (fork_leaf_planned z u site new parting c.args.other c.args.byte c.args.made body writes knows (subst (λ (w : ℕ). IsSitePlan site w writes) c.child_word-new_node.ensures c.replaced.ensures.plan)
     c.requires.inside (omega (arith, c.ranges.other.fits)) (omega (arith, c.ranges.byte.fits)) c.requires.apart c.fork.ensures.layout forked (taken_meaning site c.requires.taken))
 
-pub returns-clause-deed : goal.returns-clause-deed
-returns-clause-deed c = ap (λ (ch : Change). ch.effects.deed) (c.put.ensures ∙ ap (with_puts_of 0) (filled (goal.at.returns-clause-deed c).After-make))
-
-pub returns-clause-leaf : goal.returns-clause-leaf
-returns-clause-leaf c = ap (λ (ch : Change). ch.effects.leaf) (c.put.ensures ∙ ap (with_puts_of 0) (filled (goal.at.returns-clause-leaf c).After-make))
+pub returns-clause-effects : goal.returns-clause-effects
+returns-clause-effects c = ap (λ (ch : Change). ch.effects) (c.put.ensures ∙ ap (with_puts_of 0) (filled (goal.at.returns-clause-effects c).After-make))
 
 pub returns-clause-locks : goal.returns-clause-locks
 returns-clause-locks c = ap (λ (ch : Change). ch.targets.items) (c.put.ensures ∙ ap (with_puts_of 0) (filled (goal.at.returns-clause-locks c).After-make))

@@ -80,11 +80,8 @@ returns-clause-planned c = λ z u knows.
     (fork_prefix_planned z u site new parting below c.args.prefix.now c.args.made body writes others knows split.front.items split.byte split.rest.items c.split-parts.ensures.whole c.split-parts.ensures.front
     (site_plan after) (cut after) c.requires.meaning c.requires.inside apart c.fork.ensures.layout forked (taken_meaning site c.requires.taken))
 
-pub returns-clause-deed : goal.returns-clause-deed
-returns-clause-deed c = ap (λ (ch : Change). ch.effects.deed) (both_put (goal.at.returns-clause-deed c).After-plan_prefix (filled (goal.at.returns-clause-deed c).After-make) c.put-2.new.change c.put-2.ensures)
-
-pub returns-clause-leaf : goal.returns-clause-leaf
-returns-clause-leaf c = ap (λ (ch : Change). ch.effects.leaf) (both_put (goal.at.returns-clause-leaf c).After-plan_prefix (filled (goal.at.returns-clause-leaf c).After-make) c.put-2.new.change c.put-2.ensures)
+pub returns-clause-effects : goal.returns-clause-effects
+returns-clause-effects c = ap (λ (ch : Change). ch.effects) (both_put (goal.at.returns-clause-effects c).After-plan_prefix (filled (goal.at.returns-clause-effects c).After-make) c.put-2.new.change c.put-2.ensures)
 
 pub returns-clause-locks : goal.returns-clause-locks
 returns-clause-locks c = ap (λ (ch : Change). ch.targets.items) (both_put (goal.at.returns-clause-locks c).After-plan_prefix (filled (goal.at.returns-clause-locks c).After-make) c.put-2.new.change c.put-2.ensures)

@@ -33,11 +33,8 @@ returns-clause-planned c = λ z u depth knows.
     c.put.ensures ∙ ap (with_puts_of 0) (filled (goal.at.returns-clause-planned c).After-unlink) in
     subst (IsPlanned z u) (sym is) (drop_planned z u old depth body writes site knows c.dropped.ensures.plan c.requires.taken c.requires.two)
 
-pub returns-clause-deed : goal.returns-clause-deed
-returns-clause-deed c = ap (λ (ch : Change). ch.effects.deed) (c.put.ensures ∙ ap (with_puts_of 0) (filled (goal.at.returns-clause-deed c).After-unlink))
-
-pub returns-clause-leaf : goal.returns-clause-leaf
-returns-clause-leaf c = ap (λ (ch : Change). ch.effects.leaf) (c.put.ensures ∙ ap (with_puts_of 0) (filled (goal.at.returns-clause-leaf c).After-unlink))
+pub returns-clause-effects : goal.returns-clause-effects
+returns-clause-effects c = ap (λ (ch : Change). ch.effects) (c.put.ensures ∙ ap (with_puts_of 0) (filled (goal.at.returns-clause-effects c).After-unlink))
 
 pub returns-clause-locks : goal.returns-clause-locks
 returns-clause-locks c = ap (λ (ch : Change). ch.targets.items) (c.put.ensures ∙ ap (with_puts_of 0) (filled (goal.at.returns-clause-locks c).After-unlink))

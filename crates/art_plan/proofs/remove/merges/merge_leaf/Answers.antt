@@ -47,11 +47,8 @@ returns-clause-planned c = λ z u depth byte beside knows.
     c.put.ensures ∙ ap (with_puts_of 0) (filled before) in
     subst (IsPlanned z u) (sym is) (merge_leaf_planned z u site old depth below byte beside c.args.other body writes knows (site_plan before) (taken_meaning site c.requires))
 
-pub returns-clause-deed : goal.returns-clause-deed
-returns-clause-deed c = ap (λ (ch : Change). ch.effects.deed) (c.put.ensures ∙ ap (with_puts_of 0) (filled (goal.at.returns-clause-deed c).After-unlink-2))
-
-pub returns-clause-leaf : goal.returns-clause-leaf
-returns-clause-leaf c = ap (λ (ch : Change). ch.effects.leaf) (c.put.ensures ∙ ap (with_puts_of 0) (filled (goal.at.returns-clause-leaf c).After-unlink-2))
+pub returns-clause-effects : goal.returns-clause-effects
+returns-clause-effects c = ap (λ (ch : Change). ch.effects) (c.put.ensures ∙ ap (with_puts_of 0) (filled (goal.at.returns-clause-effects c).After-unlink-2))
 
 pub returns-clause-locks : goal.returns-clause-locks
 returns-clause-locks c = ap (λ (ch : Change). ch.targets.items) (c.put.ensures ∙ ap (with_puts_of 0) (filled (goal.at.returns-clause-locks c).After-unlink-2))

@@ -82,5 +82,8 @@ returns-clause-deed c = ap (λ (ch : Change). ch.effects.deed) (both_put (goal.a
 pub returns-clause-leaf : goal.returns-clause-leaf
 returns-clause-leaf c = ap (λ (ch : Change). ch.effects.leaf) (both_put (goal.at.returns-clause-leaf c).After-plan_prefix (filled (goal.at.returns-clause-leaf c).After-replaced) c.put-2.new.change c.put-2.ensures)
 
+pub returns-clause-effects : goal.returns-clause-effects
+returns-clause-effects c = λ done. ap (λ (ch : Change). ch.effects) (both_put (goal.at.returns-clause-effects c).After-plan_prefix (filled (goal.at.returns-clause-effects c).After-replaced) c.put-2.new.change c.put-2.ensures)
+
 pub returns-clause-locks : goal.returns-clause-locks
 returns-clause-locks c = λ done. ap (λ (ch : Change). ch.targets.items) (both_put (goal.at.returns-clause-locks c).After-plan_prefix (filled (goal.at.returns-clause-locks c).After-replaced) c.put-2.new.change c.put-2.ensures)

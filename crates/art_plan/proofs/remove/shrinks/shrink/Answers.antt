@@ -54,11 +54,8 @@ returns-clause-planned c = λ z u depth knows.
     (shrink_planned z u site old depth below c.args.byte c.args.made body writes knows (site_plan before) c.requires.sparse (omega (arith, c.ranges.byte.fits)) c.shrunk.ensures.layout c.shrunk.ensures.node
     (taken_meaning site c.requires.taken))
 
-pub returns-clause-deed : goal.returns-clause-deed
-returns-clause-deed c = ap (λ (ch : Change). ch.effects.deed) (c.put.ensures ∙ ap (with_puts_of 0) (filled (goal.at.returns-clause-deed c).After-make))
-
-pub returns-clause-leaf : goal.returns-clause-leaf
-returns-clause-leaf c = ap (λ (ch : Change). ch.effects.leaf) (c.put.ensures ∙ ap (with_puts_of 0) (filled (goal.at.returns-clause-leaf c).After-make))
+pub returns-clause-effects : goal.returns-clause-effects
+returns-clause-effects c = ap (λ (ch : Change). ch.effects) (c.put.ensures ∙ ap (with_puts_of 0) (filled (goal.at.returns-clause-effects c).After-make))
 
 pub returns-clause-locks : goal.returns-clause-locks
 returns-clause-locks c = ap (λ (ch : Change). ch.targets.items) (c.put.ensures ∙ ap (with_puts_of 0) (filled (goal.at.returns-clause-locks c).After-make))

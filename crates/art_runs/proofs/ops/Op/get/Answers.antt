@@ -1,4 +1,4 @@
 use Rattle.art_runs.proofs.ops.Op.get.Goals as goal
 
-pub returns : goal.returns
-returns c = rw c.deref_mut.ensures.value at c.begin_get.ensures.calling
+pub returns-clause-calling : goal.returns-clause-calling
+returns-clause-calling c = rw c.deref_mut.ensures.value at c.begin_get.ensures.calling

@@ -1,7 +1,7 @@
-use Rattle.std.proofs.Common.{◌≡◌, ◌∙◌, ℕ, Option, Some, None, IfSome, ap, subst, sym}
+use Rattle.std.proofs.Common.{◌≡◌, ◌∙◌, ℕ, Option, Some, None, IfSome, inr, ap, subst, sym}
 use Rattle.std.specs.Prelude.{IfNone}
 use Rattle.art_call.specs.AsAsked.{GoesAsAsked}
-use Rattle.art_call.specs.Calls.{IsCalling, Wish}
+use Rattle.art_call.specs.Calls.{FindsOverlap, IsCalling, StaysApart, Wish}
 use Rattle.art_call.specs.Made.{MakesStep}
 use Rattle.art_call.specs.declared.callers.Caller.{Caller}
 use Rattle.art_call.specs.declared.driver.Made.{Made}
@@ -32,14 +32,15 @@ goes_on s t c w given turns u only calling = subst (λ (z : Sizes). IsCalling z 
 
 goes_at : (s t : Stepper) (a b : Op) → OnlyStepped s t → MakesLast (sizes_of s) (last_in b) (view_of s) (view_of t) → AsksLast (sizes_of s) (last_in b) (view_of s) (caller_in a) (view_of t) (caller_in b)
     → ((w : Wish) (given turns : ℕ) (u : View) → IsCalling (sizes_of s) w given turns u (caller_in a) (view_of s) → IsCalling (sizes_of s) w given turns u (caller_in b) (view_of t))
-    → EndsAsCalled b → Goes (pass_of s) a (world_of s) b (world_of t)
-goes_at s t a b only step asked calling ends =
+    → EndsAsCalled b → ((FindsOverlap (sizes_of s) (caller_in a) (view_of s) (view_of t) → ⊥) → StaysApart (caller_in a) → StaysApart (caller_in b)) → Goes (pass_of s) a (world_of s) b (world_of t)
+goes_at s t a b only step asked calling ends apart =
     let same : view_of t ≡ view_at (world_of t).views (pass_of s) = ap (λ (p : ℕ). view_at (world_of t).views p) only.pass in
     record {
       last = subst (λ (x : View). MakesLast (sizes_of s) (last_in b) (view_of s) x) same step;
       asked = subst (λ (x : View). AsksLast (sizes_of s) (last_in b) (view_of s) (caller_in a) x (caller_in b)) same asked;
       calling = λ w given turns u goes. subst (λ (x : View). IsCalling (sizes_of t) w given turns u (caller_in b) x) same (goes_on s t (caller_in b) w given turns u only (calling w given turns u goes));
       ends = ends;
+      apart = subst (λ (x : View). (FindsOverlap (sizes_of s) (caller_in a) (view_of s) x → ⊥) → StaysApart (caller_in a) → StaysApart (caller_in b)) same apart;
     }
 
 pub returns-clause-fits : goal.returns-clause-fits
@@ -65,3 +66,6 @@ returns-clause-makes c =
     (asked_by (sizes_of s) (view_of s) (view_of t) _ c.step-self.new.self c.step-self.result c.step-self.ensures.asked))
     (λ w given turns u calling. c.step-self.ensures.calling w given turns u (subst (λ (a : Caller). IsCalling (sizes_of s) w given turns u a (view_of s)) (sym c.deref_mut.ensures.value) calling))
     (λ o is. so_ended _ c.outcome-ended.result _ c.outcome-ended.ensures.at c.outcome-ended.ensures.called o is)
+    (λ none apart. c.step-self.ensures.apart
+    (inr (λ o. none (subst (λ (a : Caller). FindsOverlap (sizes_of s) a (view_of s) (view_of t)) c.deref_mut.ensures.value o)))
+    (subst StaysApart (sym c.deref_mut.ensures.value) apart))

@@ -1,6 +1,6 @@
 use Rattle.std.proofs.Common.{◌≡◌, ◌+◌, ◌≤◌, ℕ, List, refl, sym, ap, subst, arith}
 use Rattle.art_key.specs.declared.bounds.Bound.{Bound as KeyBound}
-use Rattle.art_look.specs.declared.trails.Trail.{Trail as Trailed}
+use Rattle.art_look.specs.declared.path_buffers.PathBuffer.{PathBuffer as PathBufferOf}
 use Rattle.art_seek.proofs.Closes.{over_free}
 use Rattle.art_seek.specs.Seeks.{Fits, IsOver, StageFits, WentIdle, busy_at, left_at}
 use Rattle.art_seek.specs.declared.seeks.Seek.{Seek}
@@ -11,7 +11,7 @@ use Rattle.art_step.specs.declared.views.Sizes.{Sizes}
 use Rattle.art_step.specs.declared.views.View.{View}
 use Rattle.art_seek.proofs.seeks.Seek.go_idle.Goals as goal
 
-module _ (z : Sizes) (k : List ℕ) (hi : KeyBound) (u : View) (m : Seek) (t : Trailed) (v : View) (at : m.stage ≡ Closing) (fits : Fits z k hi u m t v) where
+module _ (z : Sizes) (k : List ℕ) (hi : KeyBound) (u : View) (m : Seek) (t : PathBufferOf) (v : View) (at : m.stage ≡ Closing) (fits : Fits z k hi u m t v) where
   over_at : IsOver z k hi u m t v
   over_at = subst (λ (s : SeekStage). StageFits z k hi u s m t v) at fits
 

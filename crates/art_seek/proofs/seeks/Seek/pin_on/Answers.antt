@@ -6,7 +6,7 @@ use Rattle.art_machine.specs.declared.actions.Action.{Action}
 use Rattle.art_machine.specs.declared.actions.Action.TheVariants.{ReadEpoch, StorePin}
 use Rattle.art_epoch.specs.declared.pins.Pinning.{Pinning as PinningOf}
 use Rattle.art_key.specs.declared.bounds.Bound.{Bound as KeyBound}
-use Rattle.art_look.specs.declared.trails.Trail.{Trail as Trailed}
+use Rattle.art_look.specs.declared.path_buffers.PathBuffer.{PathBuffer as PathBufferOf}
 use Rattle.art_seek.specs.Seeks.{Fits, GoesTo, IsPinning, StageFits, WillBeBusy, busy_at, left_at, steps_left}
 use Rattle.art_seek.specs.Walks.{aim_of}
 use Rattle.art_seek.specs.declared.seeks.Seek.{Seek}
@@ -16,11 +16,11 @@ use Rattle.art_step.specs.declared.views.Sizes.{Sizes}
 use Rattle.art_step.specs.declared.views.View.{View}
 use Rattle.art_seek.proofs.seeks.Seek.pin_on.Goals as goal
 
-pinning_at : (z : Sizes) (k : List ℕ) (hi : KeyBound) (u : View) (m : Seek) (t : Trailed) (v : View) → m.stage ≡ Pinning → Fits z k hi u m t v → IsPinning z k hi u m t v
+pinning_at : (z : Sizes) (k : List ℕ) (hi : KeyBound) (u : View) (m : Seek) (t : PathBufferOf) (v : View) → m.stage ≡ Pinning → Fits z k hi u m t v → IsPinning z k hi u m t v
 pinning_at z k hi u m t v at fits = subst (λ (s : SeekStage). StageFits z k hi u s m t v) at fits
 
 -- where it heard the answer of the step that it asked for, it goes on
-goes_on : (z : Sizes) (k : List ℕ) (hi : KeyBound) (m n : Seek) (t : Trailed) (v w : View) → m.stage ≡ Pinning → w.steps ≡ v.steps + 1
+goes_on : (z : Sizes) (k : List ℕ) (hi : KeyBound) (m n : Seek) (t : PathBufferOf) (v w : View) → m.stage ≡ Pinning → w.steps ≡ v.steps + 1
     → n.walk ≡ m.walk → n.turns ≡ m.turns → (m.left ≡ 0 → WillBeBusy n) → steps_left n < left_at Pinning m
     → ((u : View) → IsPinning z k hi u m t v → Fits z k hi u n t w) → GoesTo z k hi m t v n t w
 goes_on z k hi m n t v w stage one walk turns refuses left fits =

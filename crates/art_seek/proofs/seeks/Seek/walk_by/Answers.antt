@@ -5,7 +5,7 @@ use Rattle.art_seek.proofs.Parts.{walk_looks}
 use Rattle.art_find.specs.Asking.{MayLook}
 use Rattle.art_machine.specs.declared.actions.Action.{Action}
 use Rattle.art_key.specs.declared.bounds.Bound.{Bound as KeyBound}
-use Rattle.art_look.specs.declared.trails.Trail.{Trail as Trailed}
+use Rattle.art_look.specs.declared.path_buffers.PathBuffer.{PathBuffer as PathBufferOf}
 use Rattle.art_seek.specs.Seeks.{Fits, GoesOn, StageFits, busy_at, left_at, steps_left}
 use Rattle.art_seek.specs.Walks.{Settles, deed_at}
 use Rattle.art_seek.specs.declared.seeks.Seek.{Seek}
@@ -15,7 +15,7 @@ use Rattle.art_step.specs.declared.views.Sizes.{Sizes}
 use Rattle.art_step.specs.declared.views.View.{View}
 use Rattle.art_seek.proofs.seeks.Seek.walk_by.Goals as goal
 
-goes_at : (z : Sizes) (k : List ℕ) (hi : KeyBound) (u : View) (m : Seek) (t : Trailed) (v : View) → m.stage ≡ Walking → Fits z k hi u m t v → GoesOn z k hi u m t v
+goes_at : (z : Sizes) (k : List ℕ) (hi : KeyBound) (u : View) (m : Seek) (t : PathBufferOf) (v : View) → m.stage ≡ Walking → Fits z k hi u m t v → GoesOn z k hi u m t v
 goes_at z k hi u m t v at fits = subst (λ (s : SeekStage). StageFits z k hi u s m t v) at fits
 
 pub make-answer-requires-clause-asked : goal.make-answer-requires-clause-asked
@@ -27,7 +27,7 @@ make-answer-requires-clause-allowed g c =
     let v = g.S.Steps.view c.args.steps.now in
     let k = c.args.key.now in
     let m = c.args.self.now in
-    let t = c.args.trail.now in
+    let t = c.args.path_buffer.now in
     let q = c.requires.fits in
     let walk = (goes_at z k c.args.hi.now q.0 m t v c.requires.stage q.1).walking in
     inl (subst (λ (o : Option Action). IfSome o (MayLook z (Settles m.walk k t) v)) c.in-Some.is (c.next.ensures.allowed z k c.args.hi.now t walk.opened v m.restarts walk.walk))
@@ -39,7 +39,7 @@ walk_told-requires g c =
     let w = g.S.Steps.view c.make-answer.new.steps in
     let hi = c.args.hi.now in
     let q = c.requires.fits in
-    let on = goes_at z c.args.key.now hi q.0 c.args.self.now c.args.trail.now v c.requires.stage q.1 in
+    let on = goes_at z c.args.key.now hi q.0 c.args.self.now c.args.path_buffer.now v c.requires.stage q.1 in
     record {
       short = c.requires.short;
       turn = on.turn;
@@ -60,7 +60,7 @@ returns-clause-goes g c =
     let k = c.args.key.now in
     let hi = c.args.hi.now in
     let m = c.args.self.now in
-    let t = c.args.trail.now in
+    let t = c.args.path_buffer.now in
     let n = c.walk_told.new.self in
     let at = c.requires.stage in
     let row = c.make-answer.ensures.row in

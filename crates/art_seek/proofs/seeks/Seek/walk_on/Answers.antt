@@ -1,7 +1,7 @@
 -- The steps are those of the walk.
 use Rattle.std.proofs.Common.{◌≡◌, ◌≤◌, ℕ, ◌+◌, List, refl, sym, subst, arith}
 use Rattle.art_key.specs.declared.bounds.Bound.{Bound as KeyBound}
-use Rattle.art_look.specs.declared.trails.Trail.{Trail as Trailed}
+use Rattle.art_look.specs.declared.path_buffers.PathBuffer.{PathBuffer as PathBufferOf}
 use Rattle.art_seek.specs.Seeks.{Fits, GoesOn, StageFits, busy_at, left_at}
 use Rattle.art_seek.specs.Walks.{Fits as WalkFits, HasTurns}
 use Rattle.art_seek.specs.declared.seeks.Seek.{Seek}
@@ -11,7 +11,7 @@ use Rattle.art_step.specs.declared.views.Sizes.{Sizes}
 use Rattle.art_step.specs.declared.views.View.{View}
 use Rattle.art_seek.proofs.seeks.Seek.walk_on.Goals as goal
 
-module _ (z : Sizes) (k : List ℕ) (hi : KeyBound) (u : View) (m : Seek) (t : Trailed) (v : View) (at : m.stage ≡ Walking) (fits : Fits z k hi u m t v) where
+module _ (z : Sizes) (k : List ℕ) (hi : KeyBound) (u : View) (m : Seek) (t : PathBufferOf) (v : View) (at : m.stage ≡ Walking) (fits : Fits z k hi u m t v) where
   walks_on : GoesOn z k hi u m t v
   walks_on = subst (λ (s : SeekStage). StageFits z k hi u s m t v) at fits
 
@@ -27,7 +27,7 @@ module _ (z : Sizes) (k : List ℕ) (hi : KeyBound) (u : View) (m : Seek) (t : T
 pub hurry-requires-clause-some : goal.hurry-requires-clause-some
 hurry-requires-clause-some g c =
     let q = c.requires.fits in
-    (walks_on (g.S.Steps.sizes c.args.steps.now) c.args.key.now q.0 q.1.0 c.args.self.now c.args.trail.now (g.S.Steps.view c.args.steps.now) c.requires.stage q.1.1).turn
+    (walks_on (g.S.Steps.sizes c.args.steps.now) c.args.key.now q.0 q.1.0 c.args.self.now c.args.path_buffer.now (g.S.Steps.view c.args.steps.now) c.requires.stage q.1.1).turn
 
 pub hurry-requires-clause-goes : goal.hurry-requires-clause-goes
 hurry-requires-clause-goes g c =
@@ -35,7 +35,7 @@ hurry-requires-clause-goes g c =
     let z = g.S.Steps.sizes c.args.steps.now in
     let v = g.S.Steps.view c.args.steps.now in
     let m = c.args.self.now in
-    (q.0, m.turns, (walks_on z c.args.key.now q.0 q.1.0 m c.args.trail.now v c.requires.stage q.1.1).walking.opened, turns_of z c.args.key.now q.0 q.1.0 m c.args.trail.now v c.requires.stage q.1.1)
+    (q.0, m.turns, (walks_on z c.args.key.now q.0 q.1.0 m c.args.path_buffer.now v c.requires.stage q.1.1).walking.opened, turns_of z c.args.key.now q.0 q.1.0 m c.args.path_buffer.now v c.requires.stage q.1.1)
 
 pub returns-clause-goes : goal.returns-clause-goes
 returns-clause-goes g c = λ hi.
@@ -44,7 +44,7 @@ returns-clause-goes g c = λ hi.
     let v = g.S.Steps.view c.args.steps.now in
     let w = g.S.Steps.view c.hurry.new.steps in
     let m = c.args.self.now in
-    let t = c.args.trail.now in
+    let t = c.args.path_buffer.now in
     let q = c.requires.fits in
     let at = c.requires.stage in
     let next : Seek = record m { walk = c.hurry.new.self; left = c.hurry.new.tally.left; restarts = c.from-self.result } in
@@ -64,12 +64,12 @@ returns-clause-goes g c = λ hi.
           let after = c.hurry.ensures.goes hi m.turns walk.opened (turns_of z k hi u m t v at fits) in
           let within = walk.within in
           let few = after.few in
-          let on : GoesOn z k hi u next c.hurry.new.trail w = record {
+          let on : GoesOn z k hi u next c.hurry.new.path_buffer w = record {
             walking = record {
               opened = walk.opened;
               may = walk.may;
               pins_to = walk.pins_to;
-              walk = subst (λ (n : ℕ). WalkFits z k hi walk.opened c.hurry.new.self c.hurry.new.trail n w) (sym now) after.walk;
+              walk = subst (λ (n : ℕ). WalkFits z k hi walk.opened c.hurry.new.self c.hurry.new.path_buffer n w) (sym now) after.walk;
               counted = after.made;
               within = omega (arith, within, less);
               few = omega (arith, few, now);
@@ -77,5 +77,5 @@ returns-clause-goes g c = λ hi.
             going = after.going;
             turn = c.hurry.ensures.some;
           } in
-          subst (λ (a : SeekStage). StageFits z k hi u a next c.hurry.new.trail w) (sym at) on;
+          subst (λ (a : SeekStage). StageFits z k hi u a next c.hurry.new.path_buffer w) (sym at) on;
     }

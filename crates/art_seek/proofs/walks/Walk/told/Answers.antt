@@ -9,7 +9,7 @@ use Rattle.art_seek.specs.declared.walks.Walk.{Walk as WalkOf}
 pub returns-in-Key-clause-fits : goal.returns-in-Key-clause-fits
 returns-in-Key-clause-fits c z hi u v w n asked fits is row =
     let k = c.args.key.now in
-    let t = c.args.trail.now in
+    let t = c.args.path_buffer.now in
     let f = subst (λ (a : WalkOf). Fits z k hi u a t n v) c.in-Key.is fits in
     let i = subst (λ (a : WalkOf). asks a ≡ Some asked) c.in-Key.is is in
     let r = subst (λ (a : WalkOf). Answers z (telling (deed_at a k hi t)) asked c.args.answer v w) c.in-Key.is row in
@@ -19,9 +19,9 @@ returns-in-Key-clause-fits c z hi u v w n asked fits is row =
 pub returns-in-Range-clause-fits : goal.returns-in-Range-clause-fits
 returns-in-Range-clause-fits c z hi u v w n asked fits is row =
     let k = c.args.key.now in
-    let t = c.args.trail.now in
+    let t = c.args.path_buffer.now in
     let f = subst (λ (a : WalkOf). Fits z k hi u a t n v) c.in-Range.is fits in
     let i = subst (λ (a : WalkOf). asks a ≡ Some asked) c.in-Range.is is in
     let r = subst (λ (a : WalkOf). Answers z (telling (deed_at a k hi t)) asked c.args.answer v w) c.in-Range.is row in
-    range_on z k u v w n asked c.args.answer hi c.in-Range.look c.told-in-Range.new.self t c.told-in-Range.new.trail i r (λ on. c.told-in-Range.ensures.steps (c.told-in-Range.ensures.on ∙ on))
+    range_on z k u v w n asked c.args.answer hi c.in-Range.look c.told-in-Range.new.self t c.told-in-Range.new.path_buffer i r (λ on. c.told-in-Range.ensures.steps (c.told-in-Range.ensures.on ∙ on))
     (c.told-in-Range.ensures.fits z hi u v w asked f.fits i r) c.told-in-Range.ensures.least f

@@ -2,7 +2,7 @@ use Rattle.std.proofs.Common.{sym, subst, ap, ◌∙◌}
 use Rattle.std.specs.Prelude.{Result}
 use Rattle.art_call.specs.Calls.{restarts_in}
 use Rattle.art_shared.specs.Stepper.{schema_of}
-use Rattle.art_table.proofs.Begun.{keys_apart}
+use Rattle.art_typed.proofs.Keys.{keys_apart}
 use Rattle.art_table.proofs.Stepped.{ended, lent_apart, lent_calling}
 use Rattle.art_table.proofs.passes.Pass.run.Goals as goal
 use Rattle.art_table.specs.Calls.{HasEnded}

@@ -1,4 +1,5 @@
-use Rattle.art_table.proofs.Begun.{keys_apart}
+use Rattle.std.proofs.Common.{inl}
+use Rattle.art_typed.proofs.Keys.{keys_apart}
 use Rattle.art_table.proofs.Stepped.{goes_on, lent_apart, lent_calling}
 use Rattle.art_table.proofs.passes.Pass.step.Goals as goal
 use Rattle.art_shared.specs.Stepper.{schema_of}
@@ -18,4 +19,4 @@ returns-clause-goes_on c j given turns p way =
     let value = c.deref_mut.ensures.value in
     let calling = lent_calling t a s b old new value at.pass at.basis e.only (wish_of (schema_in t) j) given turns (view_of p) way.calling in
     goes_on t a s b old new value at.pass at.basis e.only j given turns p way (e.calling (wish_of (schema_in t) j) given turns (view_of p) calling)
-    (e.apart (keys_apart (schema_of s)) (lent_apart t a s b old new value at.pass at.basis e.only way.apart))
+    (e.apart (inl (keys_apart (schema_of s))) (lent_apart t a s b old new value at.pass at.basis e.only way.apart))

@@ -1,0 +1,387 @@
+//! The making of a change, step by step.
+ghost use Rattle.std.specs.Prelude.{◌≡◌, ℕ, ◌+◌, ◌<◌, ◌≤◌, [], take, length, Some, true, false};
+ghost use Rattle.art_machine.specs.Acting.{Answers};
+ghost use Rattle.art_plan.specs.Changes.{target_at, targets};
+ghost use Rattle.art_plan.specs.Whole.{IsWhole, filled_ends};
+ghost use Rattle.std.specs.Prelude.{Err};
+ghost use Rattle.art_make.specs.Apply.{GivesUp, IsLocking, IsReleasing, StageFits, at_fill, brings, claimed_so, claims, fault_of, most_steps, released_so, so_many};
+ghost use Rattle.art_make.specs.declared.apply.Apply.TheVariants.{Claiming as claiming, Filling as filling, ReleasingNode as releasing_node};
+ghost use Rattle.art_machine.specs.declared.actions.Answer.TheVariants.{Upgraded as upgraded};
+ghost use Rattle.art_machine.specs.declared.actions.Action.TheVariants.{Upgrade as upgrade};
+ghost use Rattle.art_plan.specs.declared.changes.Change.{Change as ChangeOf};
+ghost use Rattle.art_plan.specs.declared.changes.Target.{Target as TargetOf};
+ghost use Rattle.art_step.specs.declared.faults.UpgradeFault.{UpgradeFault as FaultOf};
+ghost use Rattle.art_step.specs.declared.views.Sizes.{Sizes};
+ghost use Rattle.art_step.specs.declared.views.Stamp.{Stamp as StampOf};
+ghost use Rattle.art_step.specs.declared.views.View.{View};
+
+use art_cell::Cell;
+use art_machine::{Action, Answer};
+use art_plan::Change;
+use art_step::UpgradeFault;
+
+/// Where the making of a change stands between two of its steps.
+#[derive(Clone, Copy)]
+pub enum Apply {
+    /// So many targets are locked.
+    Upgrading(usize),
+    /// All targets are; a new node is to be claimed: the copy where it is true, and else the other.
+    Claiming(bool),
+    /// The words of this new node before this place are written.
+    Filling {
+        copy: bool,
+        place: usize,
+    },
+    /// So many words of the targets are written.
+    Writing(usize),
+    /// All words are written.
+    Committing,
+    /// The change is committed, and so many targets are released.
+    Releasing(usize),
+    /// All targets are; this new node is still held.
+    ReleasingNode(bool),
+    /// After so many upgrades one failed, and so many of them are released again.
+    GivingUp {
+        locked: usize,
+        released: usize,
+        fault: UpgradeFault,
+    },
+    /// The change is made, or was given up.
+    Ended(Result<(), UpgradeFault>),
+}
+
+impl Apply {
+    ghost use Rattle.std.specs.Prelude.{ℕ, ◌+◌, ◌<◌, ◌≤◌, [], Some, None, IfSome};
+    ghost use Rattle.art_machine.specs.Acting.{Answers, IsAllowed};
+    ghost use Rattle.art_plan.specs.Whole.{IsWhole};
+    ghost use Rattle.std.specs.Prelude.{Err};
+    ghost use Rattle.art_make.specs.Apply.{Fits, IsOver, asks, ended_at, brings, fault_of, most_steps};
+    ghost use Rattle.art_machine.specs.declared.actions.Answer.TheVariants.{Upgraded as upgraded};
+    ghost use Rattle.art_machine.specs.declared.actions.Action.{Action as ActionOf};
+    ghost use Rattle.art_make.specs.declared.apply.Apply.TheVariants.{Upgrading as upgrading};
+    ghost use Rattle.art_plan.specs.declared.changes.Change.{Change as ChangeOf};
+    ghost use Rattle.art_step.specs.declared.faults.UpgradeFault.{UpgradeFault as FaultOf};
+    ghost use Rattle.art_step.specs.declared.views.Sizes.{Sizes};
+    ghost use Rattle.art_step.specs.declared.views.View.{View};
+
+    /// At its beginning: nothing is locked. A change without a target and without a word is over.
+    pub fn new(change: &Change) -> Apply
+        ensures begun { 0 < targets change.now → result ≡ upgrading 0 }
+        ensures going { 0 < targets change.now → ended_at result ≡ None }
+        ensures fits { (z : Sizes) (u : View) → IsWhole z u change.now → u.held ≡ [] → Fits z change.now result u u }
+    {
+        if change.targets.len() + change.puts.len() > 0 {
+            Apply::Upgrading(0)
+        } else {
+            Apply::Ended(Ok(()))
+        }
+    }
+
+    /// The next step, or none where it has ended.
+    #[inline(always)]
+    pub fn next(&self, change: &Change) -> Option<Action>
+        ensures asks { result ≡ asks change.now self.now }
+        ensures allowed { (z : Sizes) (u v : View) → Fits z change.now self.now u v → IfSome result (IsAllowed z (brings change.now) v) }
+        ensures going { (z : Sizes) (u v : View) → Fits z change.now self.now u v → ended_at self.now ≡ None →
+            (a : ActionOf) × (result ≡ Some a) }
+    {
+        self.asked(change)
+    }
+
+    /// The step that it asked for was made, with this answer.
+    #[inline(always)]
+    pub fn told(&mut self, change: &Change, answer: Answer)
+        requires fits { (z : Sizes) × (u : View) × (v : View) × (w : View) × (asked : ActionOf) × Fits z change.now self.old u v ×
+            (asks change.now self.old ≡ Some asked) × Answers z (brings change.now) asked answer v w }
+        ensures steps { most_steps self.old < most_steps self.new }
+        ensures stays { (e : FaultOf) → fault_of self.old ≡ Some e → fault_of self.new ≡ Some e }
+        ensures refused { (e : FaultOf) → answer ≡ upgraded (Err e) → fault_of self.new ≡ Some e }
+        ensures fits { (z : Sizes) (u v w : View) (asked : ActionOf) → Fits z change.now self.old u v →
+            asks change.now self.old ≡ Some asked → Answers z (brings change.now) asked answer v w → Fits z change.now self.new u w }
+    {
+        *self = match *self {
+            Apply::Upgrading(index) => upgraded(change, index, answer),
+            Apply::Claiming(copy) => claimed(change, copy),
+            Apply::Filling { copy, place } => filled(change, copy, place + 1),
+            Apply::Writing(index) => written(change, index + 1),
+            Apply::Committing => released(change, 1),
+            Apply::Releasing(index) => released(change, index + 1),
+            Apply::ReleasingNode(copy) => released_node(change, copy),
+            Apply::GivingUp {
+                locked,
+                released: count,
+                fault,
+            } => given_up(locked, count + 1, fault),
+            Apply::Ended(_) => unreachable!(),
+        };
+    }
+
+    /// The next step, by the stage alone.
+    #[inline(always)]
+    fn asked(&self, change: &Change) -> Option<Action>
+        ensures { result ≡ asks change.now self.now }
+    {
+        match *self {
+            Apply::Upgrading(index) => Some(Action::Upgrade {
+                stamp: change.target(index)?.stamp,
+            }),
+            Apply::Claiming(copy) => Some(Action::Claim {
+                node: change.made_at(copy)?,
+            }),
+            Apply::Filling { copy, place } => Some(Action::Write {
+                cell: Cell::Node(change.made_at(copy)?),
+                place,
+                word: change.made_word(copy, place),
+            }),
+            Apply::Writing(index) => {
+                let put = change.put(index)?;
+                let target = change.target(put.target)?;
+                Some(Action::Write {
+                    cell: target.stamp.cell,
+                    place: put.place,
+                    word: put.value,
+                })
+            }
+            Apply::Committing => {
+                let top = change.target(0)?;
+                Some(Action::Commit {
+                    cell: top.stamp.cell,
+                    obsolete: top.obsolete,
+                })
+            }
+            Apply::Releasing(index) => {
+                let target = change.target(index)?;
+                Some(Action::Release {
+                    cell: target.stamp.cell,
+                    obsolete: target.obsolete,
+                })
+            }
+            Apply::ReleasingNode(copy) => Some(Action::Release {
+                cell: Cell::Node(change.made_at(copy)?),
+                obsolete: false,
+            }),
+            Apply::GivingUp { released, .. } => Some(Action::Release {
+                cell: change.target(released)?.stamp.cell,
+                obsolete: false,
+            }),
+            Apply::Ended(_) => None,
+        }
+    }
+
+    /// Whether the change was made, or why not, once it has ended.
+    #[inline(always)]
+    pub fn ended(&self) -> Option<Result<(), UpgradeFault>>
+        ensures { result ≡ ended_at self.now }
+    {
+        match self {
+            Apply::Ended(result) => Some(*result),
+            _ => None,
+        }
+    }
+}
+
+/// The upgrade of the target with this index was answered.
+#[inline(always)]
+fn upgraded(change: &Change, index: usize, answer: Answer) -> Apply
+    requires few { index < targets change.now }
+    requires five { index < 5 }
+    requires answer { (z : Sizes) × (x : StampOf) × (v : View) × (w : View) × Answers z (brings change.now) (upgrade x) answer v w }
+    ensures steps { index < most_steps result }
+    ensures refused { (e : FaultOf) → answer ≡ upgraded (Err e) → fault_of result ≡ Some e }
+    ensures fits { (z : Sizes) (u v w : View) (x : TargetOf) → IsWhole z u change.now → target_at change.now index ≡ Some x →
+        IsLocking u change.now index [] (so_many 0 0) v → Answers z (brings change.now) (upgrade x.stamp) answer v w → StageFits change.now result u w }
+{
+    let Answer::Upgraded { result } = answer else {
+        unreachable!();
+    };
+    match result {
+        Ok(()) => locked(change, index + 1),
+        Err(fault) => given_up(index, 0, fault),
+    }
+}
+
+/// So many targets are locked.
+#[inline(always)]
+fn locked(change: &Change, count: usize) -> Apply
+    requires few { count ≤ targets change.now }
+    ensures steps { count ≤ most_steps result }
+    ensures fits { (u v : View) → IsLocking u change.now count [] (so_many 0 0) v → StageFits change.now result u v }
+{
+    if count < change.targets.len() {
+        return Apply::Upgrading(count);
+    }
+    claim_first(change)
+}
+
+/// All targets are locked: the new nodes are claimed.
+#[inline(always)]
+fn claim_first(change: &Change) -> Apply
+    ensures steps { 5 ≤ most_steps result }
+    ensures fits { (u v : View) → IsLocking u change.now (targets change.now) [] (so_many 0 0) v → StageFits change.now result u v }
+{
+    match change.made() {
+        Some(_) => Apply::Claiming(false),
+        None => claim_copy(change),
+    }
+}
+
+/// The first new node is claimed, where there is one.
+#[inline(always)]
+fn claim_copy(change: &Change) -> Apply
+    ensures steps { 6 ≤ most_steps result }
+    ensures fits { (u v : View) → IsLocking u change.now (targets change.now) [] (so_many (claims change.now false) 0) v →
+        StageFits change.now result u v }
+{
+    match change.copied() {
+        Some(_) => Apply::Claiming(true),
+        None => fill_first(change),
+    }
+}
+
+/// This new node was claimed.
+#[inline(always)]
+fn claimed(change: &Change, copy: bool) -> Apply
+    ensures steps { most_steps (claiming copy) < most_steps result }
+    ensures fits { (u v : View) → IsLocking u change.now (targets change.now) [] (claimed_so change.now copy) v →
+        StageFits change.now result u v }
+{
+    if copy {
+        fill_first(change)
+    } else {
+        claim_copy(change)
+    }
+}
+
+/// All new nodes are claimed: their words are written.
+#[inline(always)]
+fn fill_first(change: &Change) -> Apply
+    ensures steps { 8 ≤ most_steps result }
+    ensures fits { (u v : View) →
+        IsLocking u change.now (targets change.now) [] (so_many (claims change.now false) (claims change.now true)) v →
+        StageFits change.now result u v }
+{
+    match change.made() {
+        Some(_) => Apply::Filling {
+            copy: false,
+            place: 1,
+        },
+        None => fill_copy(change),
+    }
+}
+
+/// The words of the first new node are written, where there is one.
+#[inline(always)]
+fn fill_copy(change: &Change) -> Apply
+    ensures steps { 274 ≤ most_steps result }
+    ensures fits { (u v : View) →
+        IsLocking u change.now (targets change.now) [] (so_many (filled_ends change.now false) (claims change.now true)) v →
+        StageFits change.now result u v }
+{
+    match change.copied() {
+        Some(_) => Apply::Filling {
+            copy: true,
+            place: 1,
+        },
+        None => written(change, 0),
+    }
+}
+
+/// The words of this new node before this place are written.
+#[inline(always)]
+fn filled(change: &Change, copy: bool, place: usize) -> Apply
+    requires some { 0 < place }
+    requires few { place ≤ filled_ends change.now copy }
+    ensures steps { most_steps (filling copy place) ≤ most_steps result }
+    ensures fits { (u v : View) → IsLocking u change.now (targets change.now) [] (at_fill change.now copy place) v →
+        StageFits change.now result u v }
+{
+    let Some(node) = change.made_at(copy) else {
+        unreachable!();
+    };
+    if place < node.layout.size() {
+        return Apply::Filling { copy, place };
+    }
+    if copy {
+        written(change, 0)
+    } else {
+        fill_copy(change)
+    }
+}
+
+/// So many words of the targets are written, and all of the new nodes.
+#[inline(always)]
+fn written(change: &Change, count: usize) -> Apply
+    requires few { count ≤ length change.now.puts.items }
+    ensures steps { 539 + count ≤ most_steps result }
+    ensures fits { (u v : View) → IsLocking u change.now (targets change.now) (take count change.now.puts.items) (filled_ends change.now) v →
+        StageFits change.now result u v }
+{
+    if count < change.puts.len() {
+        Apply::Writing(count)
+    } else {
+        Apply::Committing
+    }
+}
+
+/// The change is committed, and so many targets are released.
+#[inline(always)]
+fn released(change: &Change, count: usize) -> Apply
+    requires few { count ≤ targets change.now }
+    requires five { count ≤ 5 }
+    ensures steps { 573 + count ≤ most_steps result }
+    ensures fits { (u v : View) → IsReleasing u change.now count (filled_ends change.now) v → StageFits change.now result u v }
+{
+    if count < change.targets.len() {
+        return Apply::Releasing(count);
+    }
+    match change.made() {
+        Some(_) => Apply::ReleasingNode(false),
+        None => release_copy(change),
+    }
+}
+
+/// All targets are released, and the first new node, where there is one.
+#[inline(always)]
+fn release_copy(change: &Change) -> Apply
+    ensures steps { 579 ≤ most_steps result }
+    ensures fits { (u v : View) →
+        IsReleasing u change.now (targets change.now) (so_many 0 (filled_ends change.now true)) v → StageFits change.now result u v }
+{
+    match change.copied() {
+        Some(_) => Apply::ReleasingNode(true),
+        None => Apply::Ended(Ok(())),
+    }
+}
+
+/// This new node was released.
+#[inline(always)]
+fn released_node(change: &Change, copy: bool) -> Apply
+    ensures steps { most_steps (releasing_node copy) < most_steps result }
+    ensures fits { (u v : View) → IsReleasing u change.now (targets change.now) (released_so change.now copy) v →
+        StageFits change.now result u v }
+{
+    if copy {
+        Apply::Ended(Ok(()))
+    } else {
+        release_copy(change)
+    }
+}
+
+/// After so many upgrades one failed, and so many of them are released again.
+fn given_up(locked: usize, count: usize, fault: UpgradeFault) -> Apply
+    requires few { count ≤ locked }
+    requires five { locked ≤ 5 }
+    ensures steps { 6 + count ≤ most_steps result }
+    ensures fault { fault_of result ≡ Some fault }
+    ensures fits { (c : ChangeOf) (u v : View) → locked ≤ targets c → GivesUp u c count locked fault v → StageFits c result u v }
+{
+    if count < locked {
+        Apply::GivingUp {
+            locked,
+            released: count,
+            fault,
+        }
+    } else {
+        Apply::Ended(Err(fault))
+    }
+}
