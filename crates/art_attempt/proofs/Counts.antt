@@ -2,7 +2,8 @@
 use Rattle.std.proofs.Common.{◌≡◌, ◌∙◌, ◌+◌, ℕ, nat_lt, Bool, List, Option, Some, None, sym, ap, subst}
 use Rattle.std.proofs.lemmas.Option.{same_Some}
 use Rattle.art_attempt.proofs.Finds.{finding_allowed}
-use Rattle.art_attempt.proofs.Given.{ask_looks, if_some, look_once, look_row, made_row, apply_asks_made, plain_row, supply_asks_supply, supply_once, supply_plain, vouch_asks_look}
+use Rattle.art_attempt.proofs.Given.{ask_looks, if_some, look_once, look_row, made_row, plain_row, supply_asks_supply, supply_once, supply_plain, vouch_asks_look}
+use Rattle.art_make.proofs.Keeping.{asks_made}
 use Rattle.art_attempt.specs.Asking.{Answers, given}
 use Rattle.art_attempt.specs.Inserting.{Fits, StageFits, asks, asks_at, deed_at}
 use Rattle.art_attempt.specs.Rooms.{demand_of}
@@ -80,7 +81,7 @@ module _ (z : Sizes) (v w : View) where
         ∙ sym (ap (λ (n : ℕ). v.steps + n) (supply_once z (given d c a) a r v w supply row))
 
     pub change_made : (u : View) (m : Apply) → apply.Fits z c m u v → apply.asks c m ≡ Some a → w.steps ≡ v.steps + steps_in r
-    change_made u m f is = steps_made z (apply.brings c) a r v w (allowed z u v c m a f is) (made_row z d c a r v w (apply_asks_made c m a is) row)
+    change_made u m f is = steps_made z (apply.brings c) a r v w (allowed z u v c m a f is) (made_row z d c a r v w (asks_made c m a is) row)
 
 -- ---- of an attempt
 

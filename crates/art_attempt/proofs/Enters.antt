@@ -1,10 +1,11 @@
 -- Numbers are in the hand, the cells are vouched for, and the change is made.
-use Rattle.std.proofs.Common.{◌≡◌, ℕ, ◌<◌, Bool, true, false, List, Option, Some, refl, sym, ap, ◌∙◌, subst, arith, ⊎_elim}
+use Rattle.std.proofs.Common.{◌≡◌, ℕ, ◌<◌, ◌≤◌, Bool, true, false, List, Option, Some, refl, sym, ap, ◌∙◌, subst, arith, ⊎_elim}
 use Rattle.std.specs.Prelude.{Ok, Err, Result, ⊤}
 use Rattle.std.specs.Option.{option_map, unwrap_or}
 use Rattle.std.proofs.lemmas.Bool.{cases_Bool}
 use Rattle.std.proofs.lemmas.Option.{same_Some}
 use Rattle.art_attempt.proofs.LastCheck.{check_stays, stood_stays}
+use Rattle.art_attempt.proofs.Looks.{no_fewer}
 use Rattle.art_attempt.proofs.Spent.{few_looks}
 use Rattle.art_attempt.proofs.Tries.{checked_since, event_since, limbo_committed, rest_committed, standing_takes, still_fails, still_later, still_reads, still_takes, stock_fails, stock_reads}
 use Rattle.art_attempt.specs.Inserting.{EndFits, EndsSo, HasEntered, HasMade, HasSupplies, HasVouched, IsFull, given_up}
@@ -45,7 +46,8 @@ use Rattle.art_plan.specs.Insert.Puts.{inserted}
 use Rattle.art_make.proofs.PackedLeaves.{packed_leaf}
 use Rattle.art_make.proofs.Told.{ends_as}
 use Rattle.art_make.specs.Apply as apply
-use Rattle.art_make.specs.Apply.{HasFailed, IsOver}
+use Rattle.art_make.specs.Apply.{HasFailed, IsOver, KeepsCheck}
+use Rattle.art_make.specs.declared.apply.Apply.{Apply}
 use Rattle.art_make.specs.LeafWriter.{IsPacked}
 use Rattle.art_find.specs.Findings.{IsStanding}
 use Rattle.art_find.specs.declared.read_sets.ReadSet.{ReadSet}
@@ -168,6 +170,24 @@ module _ (z : Sizes) (u : View) (m : Inserting) (r : Room) (v : View) (h : HasVo
   abbrev StageOf : Vouching → Type 0
   StageOf s = vouching.StageFits z r.row.key.items (both_of m.position.verdict) m.position s r.read_set h.early v
 
+  -- it goes on
+  pub vouched_on : (w : View) (next : Vouching) (read_set : ReadSet) → v.steps ≤ w.steps → vouching.Fits z r.row.key.items (both_of m.position.verdict) m.position next read_set h.early w
+      → HasVouched z u (record m { vouching = next }) (record r { read_set = read_set }) w
+  vouched_on w next read_set more fits =
+      let before = h.later.steps in
+      let same = fits.failures in
+      let few = no_fewer next h.early.failures in
+      record {
+        early = h.early;
+        base = h.base;
+        later = record { steps = omega (arith, before, more); failures = omega (arith, same, few) };
+        spent = h.spent;
+        has = h.has;
+        all = h.all;
+        comes = h.comes;
+        fits = fits;
+      }
+
   vouched_reads : (e : Vouched) → vouching.ended_at m.vouching ≡ Some e → StageOf (vouches.Ended e)
   vouched_reads e is = subst StageOf (vouched_as m.vouching e is) h.fits.stage
 
@@ -225,6 +245,26 @@ module _ (z : Sizes) (u : View) (m : Inserting) (r : Room) (v : View) (h : HasVo
 -- ---- the change
 
 module _ (z : Sizes) (u : View) (m : Inserting) (r : Room) (v : View) (h : HasMade z u m r v) where
+  -- it goes on
+  pub made_on : (w : View) (next : Apply) → KeepsCheck v w → apply.Fits z r.change next h.early w → HasMade z u (record m { apply = next }) r w
+  made_on w next keeps fits =
+      let before = h.later.steps in
+      let failed = h.later.failures in
+      let more = keeps.steps in
+      let again = keeps.failures in
+      record {
+        early = h.early;
+        base = h.base;
+        later = record { steps = omega (arith, before, more); failures = omega (arith, failed, again) };
+        spent = h.spent;
+        locks = h.locks;
+        has = h.has;
+        plain = h.plain;
+        leaf = h.leaf;
+        deed = h.deed;
+        fits = fits;
+      }
+
   module _ (made : Result ⊤ UpgradeFault) (is : apply.ended_at m.apply ≡ Some made) where
     over : IsOver h.early r.change made v
     over = (ends_as z h.early v r.change m.apply made h.fits is).0

@@ -4,7 +4,8 @@ use Rattle.std.proofs.lemmas.Bool.{eqb-true}
 use Rattle.art_attempt.proofs.Enters.{supplies_so, vouched_ends}
 use Rattle.art_attempt.proofs.Finds.{ends_reading}
 use Rattle.art_attempt.proofs.Tries.{later_first, still_later}
-use Rattle.art_attempt.specs.Inserting.{EndsSo, HasMade, HasVouched, IsFinding, StageFits, entered_at, free_at, is_begun}
+use Rattle.art_attempt.specs.Inserting.{EndsSo, HasMade, HasVouched, IsFinding, StageFits, entered_at, free_at}
+use Rattle.art_make.specs.Apply.{is_begun}
 use Rattle.art_attempt.specs.Rooms.{both_of}
 use Rattle.art_attempt.specs.Trying.{StillTries}
 use Rattle.art_attempt.specs.declared.inserting.Inserting.{Inserting}

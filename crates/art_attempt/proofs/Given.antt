@@ -37,6 +37,7 @@ use Rattle.art_machine.specs.declared.actions.Answer.{Answer}
 use Rattle.art_machine.specs.declared.actions.Answer.TheVariants.{Begun, Word, Checked, Upgraded, Done}
 use Rattle.art_machine.specs.declared.actions.Effects.{Effects}
 use Rattle.art_make.proofs.Told.{map_some}
+use Rattle.art_make.proofs.Keeping.{IsMade}
 use Rattle.art_make.specs.Apply as apply
 use Rattle.art_make.specs.Apply.{put_into, releases}
 use Rattle.art_make.specs.declared.apply.Apply.{Apply}
@@ -63,15 +64,6 @@ abbrev pub IsSupply : Action → Type 0
 IsSupply (ClearBit p i o) = ⊤
 IsSupply (WriteLeaf l i word) = ⊤
 IsSupply a = ⊥
-
--- a step by which a change is made
-abbrev pub IsMade : Action → Type 0
-IsMade (Upgrade x) = ⊤
-IsMade (Claim n) = ⊤
-IsMade (Write b i word) = ⊤
-IsMade (Commit b o) = ⊤
-IsMade (Release b o) = ⊤
-IsMade a = ⊥
 
 then_some : {A B : Type 0} (f : A → Option B) (o : Option A) (y : B) → option_and_then f o ≡ Some y → (x : A) × (o ≡ Some x) × (f x ≡ Some y)
 then_some f None y e = absurd (cc)
@@ -122,20 +114,6 @@ lower_asks_look t (lower.CheckAbove x) a is = above_check t.above a is
 lower_asks_look t (lower.CheckHere x) a is = subst IsLook (same_Some (Check t.stamp) a is) tt
 lower_asks_look t (lower.CheckLower x) a is = subst IsLook (same_Some (Check x) a is) tt
 lower_asks_look t (lower.Ended r) a is = absurd (cc)
-
-pub apply_asks_made : (c : ChangeOf) (m : Apply) (a : Action) → apply.asks c m ≡ Some a → IsMade a
-apply_asks_made c (make.Upgrading i) a is = let k = map_some (λ (x : Target). Upgrade x.stamp) (target_at c i) a is in subst IsMade k.2 tt
-apply_asks_made c (make.Claiming b) a is = let k = map_some Claim (made_at b c) a is in subst IsMade k.2 tt
-apply_asks_made c (make.Filling b place) a is = let k = map_some (λ (n : Node). Write (cell.Node n) place (made_word b c place)) (made_at b c) a is in subst IsMade k.2 tt
-apply_asks_made c (make.Writing j) a is =
-    let p = then_some (λ (q : Put). option_map (put_into q) (target_at c q.target)) (put_at c j) a is in
-    let x = map_some (put_into p.0) (target_at c p.0.target) a p.2 in
-    subst IsMade x.2 tt
-apply_asks_made c make.Committing a is = let k = map_some (λ (x : Target). Commit x.stamp.cell x.obsolete) (target_at c 0) a is in subst IsMade k.2 tt
-apply_asks_made c (make.Releasing i) a is = let k = map_some releases (target_at c i) a is in subst IsMade k.2 tt
-apply_asks_made c (make.ReleasingNode b) a is = let k = map_some (λ (n : Node). Release (cell.Node n) false) (made_at b c) a is in subst IsMade k.2 tt
-apply_asks_made c (make.GivingUp locked released e) a is = let k = map_some (λ (x : Target). Release x.stamp.cell false) (target_at c released) a is in subst IsMade k.2 tt
-apply_asks_made c (make.Ended r) a is = absurd (cc)
 
 -- so is the check of a place
 pub check_look : (found : Verdict) (t : Position) → IsLook (check_by found t)

@@ -1,13 +1,13 @@
 -- Each answer leaves fewer steps.
 use Rattle.std.proofs.Common.{◌≡◌, ◌⊎◌, ℕ, ◌+◌, ◌-◌, ◌<◌, ◌≤◌, true, false, Option, Some, None, inl, inr, refl, ap, ◌∙◌, arith, ⊎_elim}
-use Rattle.std.proofs.lemmas.Bool.{cases_Bool, eqb-true, eqb-false}
+use Rattle.std.proofs.lemmas.Bool.{cases_Bool, eq-eqb, eqb-true, eqb-false}
 use Rattle.std.specs.Prelude.{Result, Ok, Err, ⊤, ◌==◌}
-use Rattle.art_attempt.specs.Inserting.{ended_left, entered_so, free_at, held_left, is_begun, is_last, last_left, left_at, apply_left, tries_left}
+use Rattle.art_attempt.specs.Inserting.{ended_left, entered_so, free_at, held_left, is_last, last_left, left_at, apply_left, tries_left}
 use Rattle.art_attempt.specs.declared.inserting.Entered.TheVariants as entered
 use Rattle.art_attempt.specs.declared.inserting.Entered.TheVariants.{Restart}
 use Rattle.art_attempt.specs.declared.inserting.Stage.{Stage}
 use Rattle.art_attempt.specs.declared.inserting.Stage.TheVariants as stage
-use Rattle.art_make.specs.Apply.{asks, ended_at, fault_of, most_steps}
+use Rattle.art_make.specs.Apply.{Runs, asks, ended_at, fault_of, is_begun, most_steps}
 use Rattle.art_machine.specs.Acting.{steps_in}
 use Rattle.art_machine.specs.declared.actions.Action.{Action}
 use Rattle.art_machine.specs.declared.actions.Answer.{Answer}
@@ -18,6 +18,7 @@ use Rattle.art_plan.specs.declared.changes.Change.{Change as ChangeOf}
 use Rattle.art_step.specs.declared.faults.Changed.{Changed}
 use Rattle.art_step.specs.declared.faults.UpgradeFault.{UpgradeFault}
 use Rattle.art_step.specs.declared.faults.UpgradeFault.TheVariants as fault
+use Rattle.art_step.specs.declared.views.View.{View}
 
 -- ---- while nothing is held
 
@@ -122,21 +123,21 @@ held_is left m = ⊎_elim
     (cases_Bool (is_last (fault_of m))))
     (cases_Bool (left == 0))
 
-module _ (left n : ℕ) (m then : Apply) (begun : is_begun m ≡ true → 0 < left) (few : most_steps m < 580) (stays : is_last (fault_of m) ≡ true → is_last (fault_of then) ≡ true) (some : is_last (fault_of then) ≡ false → 0 < n) where
-  apply_is : ((apply_left left m ≡ last_left m) × ((left ≡ 0) ⊎ (is_last (fault_of m) ≡ true))) ⊎ ((apply_left left m ≡ left + 581) × (0 < left))
-  apply_is = ⊎_elim
-      (λ (b : is_begun m ≡ true). inr (apply_free left m b ∙ tries_some left (begun b), begun b))
-      (λ (b : is_begun m ≡ false). ⊎_elim
-      (λ (k : (held_left left m ≡ last_left m) × ((left ≡ 0) ⊎ (is_last (fault_of m) ≡ true))). inl (rw b k))
-      (λ (k : (held_left left m ≡ left + 581) × (0 < left) × (is_last (fault_of m) ≡ false)). inr (rw b (k.0, k.1)))
-      (held_is left m))
-      (cases_Bool (is_begun m))
+apply_is : (left : ℕ) (m : Apply) → (is_begun m ≡ true → 0 < left) → ((apply_left left m ≡ last_left m) × ((left ≡ 0) ⊎ (is_last (fault_of m) ≡ true))) ⊎ ((apply_left left m ≡ left + 581) × (0 < left))
+apply_is left m begun = ⊎_elim
+    (λ (b : is_begun m ≡ true). inr (apply_free left m b ∙ tries_some left (begun b), begun b))
+    (λ (b : is_begun m ≡ false). ⊎_elim
+    (λ (k : (held_left left m ≡ last_left m) × ((left ≡ 0) ⊎ (is_last (fault_of m) ≡ true))). inl (rw b k))
+    (λ (k : (held_left left m ≡ left + 581) × (0 < left) × (is_last (fault_of m) ≡ false)). inr (rw b (k.0, k.1)))
+    (held_is left m))
+    (cases_Bool (is_begun m))
 
+module _ (left n : ℕ) (m then : Apply) (begun : is_begun m ≡ true → 0 < left) (few : most_steps m < 580) (stays : is_last (fault_of m) ≡ true → is_last (fault_of then) ≡ true) (some : is_last (fault_of then) ≡ false → 0 < n) where
   some_left : 0 < apply_left left m
   some_left = ⊎_elim
       (λ (k : (apply_left left m ≡ last_left m) × ((left ≡ 0) ⊎ (is_last (fault_of m) ≡ true))). let is = k.0 in omega (arith, is, few))
       (λ (k : (apply_left left m ≡ left + 581) × (0 < left)). let is = k.0 in omega (arith, is))
-      apply_is
+      (apply_is left m begun)
 
   again_less : 0 < left - n → is_last (fault_of then) ≡ false → (left - n) + 581 < apply_left left m
   again_less more other = ⊎_elim
@@ -145,14 +146,14 @@ module _ (left n : ℕ) (m then : Apply) (begun : is_begun m ≡ true → 0 < le
       (λ (last : is_last (fault_of m) ≡ true). let now = stays last in absurd (cc))
       k.1)
       (λ (k : (apply_left left m ≡ left + 581) × (0 < left)). let is = k.0 in let one = some other in omega (arith, is, one, more))
-      apply_is
+      (apply_is left m begun)
 
   held_less : most_steps m < most_steps then → most_steps then < 580 → held_left (left - n) then < apply_left left m
   held_less more end = ⊎_elim
       (λ (h : (held_left (left - n) then ≡ last_left then) × ((left - n ≡ 0) ⊎ (is_last (fault_of then) ≡ true))). let now = h.0 in ⊎_elim
       (λ (k : (apply_left left m ≡ last_left m) × ((left ≡ 0) ⊎ (is_last (fault_of m) ≡ true))). let is = k.0 in omega (arith, now, is, more, end, few))
       (λ (k : (apply_left left m ≡ left + 581) × (0 < left)). let is = k.0 in omega (arith, now, is, more, end))
-      apply_is)
+      (apply_is left m begun))
       (λ (h : (held_left (left - n) then ≡ left - n + 581) × (0 < left - n) × (is_last (fault_of then) ≡ false)). let now = h.0 in let less = again_less h.1 h.2 in omega (arith, now, less))
       (held_is (left - n) then)
 
@@ -171,3 +172,95 @@ module _ (left n : ℕ) (m then : Apply) (begun : is_begun m ≡ true → 0 < le
   ended_less (Ok done) is = some_left
   ended_less (Err (fault.Exhausted e)) is = some_left
   ended_less (Err (fault.Changed e)) is = anew_less (ap is_last (fault_ended then (fault.Changed e) is))
+
+-- ---- where more than one step was made
+
+-- it has ended, or it has not
+pub by_end : {A : Type 0} (m : Apply) → (ended_at m ≡ None → A) → ((r : Result ⊤ UpgradeFault) → ended_at m ≡ Some r → A) → A
+by_end {A} m none some = by (ended_at m) refl
+  where
+    by : (o : Option (Result ⊤ UpgradeFault)) → ended_at m ≡ o → A
+    by None is = none is
+    by (Some r) is = some r is
+
+-- no step was made where no cell is locked
+begun_is : (m : Apply) → is_begun m ≡ true → most_steps m ≡ 0
+begun_is (Upgrading i) is = eqb-true i 0 is
+begun_is (Claiming b) is = absurd (cc)
+begun_is (Filling b place) is = absurd (cc)
+begun_is (Writing j) is = absurd (cc)
+begun_is Committing is = absurd (cc)
+begun_is (Releasing i) is = absurd (cc)
+begun_is (ReleasingNode b) is = absurd (cc)
+begun_is (GivingUp locked released e) is = absurd (cc)
+begun_is (Ended r) is = absurd (cc)
+
+none_begun : (m : Apply) → most_steps m ≡ 0 → is_begun m ≡ true
+none_begun (Upgrading i) is = eq-eqb i 0 is
+none_begun (Claiming false) is = absurd (omega (arith, is))
+none_begun (Claiming true) is = absurd (omega (arith, is))
+none_begun (Filling false place) is = absurd (omega (arith, is))
+none_begun (Filling true place) is = absurd (omega (arith, is))
+none_begun (Writing j) is = absurd (omega (arith, is))
+none_begun Committing is = absurd (omega (arith, is))
+none_begun (Releasing i) is = absurd (omega (arith, is))
+none_begun (ReleasingNode false) is = absurd (omega (arith, is))
+none_begun (ReleasingNode true) is = absurd (omega (arith, is))
+none_begun (GivingUp locked released e) is = absurd (omega (arith, is))
+none_begun (Ended r) is = absurd (omega (arith, is))
+
+most_ended : (m : Apply) (r : Result ⊤ UpgradeFault) → ended_at m ≡ Some r → most_steps m ≡ 580
+most_ended (Ended e) r is = refl
+most_ended (Upgrading i) r is = absurd (cc)
+most_ended (Claiming b) r is = absurd (cc)
+most_ended (Filling b place) r is = absurd (cc)
+most_ended (Writing j) r is = absurd (cc)
+most_ended Committing r is = absurd (cc)
+most_ended (Releasing i) r is = absurd (cc)
+most_ended (ReleasingNode b) r is = absurd (cc)
+most_ended (GivingUp locked released e) r is = absurd (cc)
+
+module _ (left left' : ℕ) (v w : View) (m m' : Apply) (begun : is_begun m ≡ true → 0 < left) (run : Runs m m' v w left left') where
+  -- it has ended
+  pub run_ended : (r : Result ⊤ UpgradeFault) → ended_at m' ≡ Some r → w.steps + ended_left left' (entered_so r) ≤ v.steps + apply_left left m
+  run_ended r is = by r is
+    where
+      few : w.steps + most_steps m ≤ v.steps + 580
+      few = let end = most_ended m' r is in let all = run.few in omega (arith, all, end)
+
+      none : w.steps ≤ v.steps + apply_left left m
+      none = ⊎_elim
+          (λ (k : (apply_left left m ≡ last_left m) × ((left ≡ 0) ⊎ (is_last (fault_of m) ≡ true))). let at = k.0 in let all = few in omega (arith, at, all))
+          (λ (k : (apply_left left m ≡ left + 581) × (0 < left)). let at = k.0 in let all = few in omega (arith, at, all))
+          (apply_is left m begun)
+
+      again : is_last (fault_of m') ≡ false → 0 < left' → w.steps + (left' + 581) ≤ v.steps + apply_left left m
+      again other more = let taken = run.turns in let later = run.keeps.steps in ⊎_elim
+          (λ (k : (apply_left left m ≡ last_left m) × ((left ≡ 0) ⊎ (is_last (fault_of m) ≡ true))). ⊎_elim
+          (λ (zero : left ≡ 0). absurd (omega (arith, zero, more, taken)))
+          (λ (last : is_last (fault_of m) ≡ true). let now = last_stays (fault_of m) (fault_of m') run.stays last in absurd (cc))
+          k.1)
+          (λ (k : (apply_left left m ≡ left + 581) × (0 < left)). let at = k.0 in omega (arith, at, more, taken, later))
+          (apply_is left m begun)
+
+      by : (r : Result ⊤ UpgradeFault) → ended_at m' ≡ Some r → w.steps + ended_left left' (entered_so r) ≤ v.steps + apply_left left m
+      by (Ok done) at = let all = none in omega (arith, all)
+      by (Err (fault.Exhausted e)) at = let all = none in omega (arith, all)
+      by (Err (fault.Changed e)) at = ⊎_elim
+          (λ (z : (left' == 0) ≡ true). let all = none in rw z (omega (arith, all)))
+          (λ (z : (left' == 0) ≡ false). let not = eqb-false left' 0 z in rw z (again (ap is_last (fault_ended m' (fault.Changed e) at)) (omega (arith, not))))
+          (cases_Bool (left' == 0))
+
+  -- or no step of it was made
+  pub run_begun : is_begun m' ≡ true → w.steps + apply_left left' m' ≤ v.steps + apply_left left m
+  run_begun is =
+      let none = begun_is m' is in
+      let few = run.few in
+      let later = run.keeps.steps in
+      let taken = run.turns in
+      let before = none_begun m (omega (arith, none, few, later)) in
+      let now = apply_free left' m' is in
+      let was = apply_free left m before in
+      let same : left' ≡ left = omega (arith, none, few, later, taken) in
+      let left_same = ap tries_left same in
+      omega (arith, now, was, left_same, none, few)

@@ -15,4 +15,3 @@ pub mod Overlaps
 pub mod Spent
 pub mod Steps
 pub mod Tries
-pub mod Written

@@ -1,7 +1,7 @@
 -- A vouching takes no failure back, and a change that has come further is begun.
 use Rattle.std.proofs.Common.{◌≡◌, ◌<◌, ◌≤◌, ℕ, false, refl, arith}
 use Rattle.std.proofs.lemmas.Bool.{ne_eqb}
-use Rattle.art_attempt.specs.Inserting.{is_begun}
+use Rattle.art_make.specs.Apply.{is_begun}
 use Rattle.art_gather.specs.Vouching.{failures_of}
 use Rattle.art_gather.specs.declared.vouching.Vouched.TheVariants as vouched
 use Rattle.art_gather.specs.declared.vouching.Vouching.{Vouching}

@@ -28,7 +28,7 @@ use Rattle.art_machine.specs.declared.actions.Answer.{Answer}
 use Rattle.art_plan.specs.Insert.Puts.{inserted}
 use Rattle.art_plan.specs.declared.insert.leaves.NewLeaf.{NewLeaf}
 use Rattle.art_make.specs.Apply as apply
-use Rattle.art_make.specs.Apply.{HasFailed, fault_of, most_steps}
+use Rattle.art_make.specs.Apply.{HasFailed, fault_of, is_begun, most_steps}
 use Rattle.art_make.specs.declared.apply.Apply.{Apply}
 use Rattle.art_make.specs.declared.apply.Apply.TheVariants.{Upgrading}
 use Rattle.art_model.specs.declared.commands.Answer.TheVariants as reply
@@ -189,11 +189,6 @@ pub record HasMade (z : Sizes) (u : View) (m : Inserting) (r : Room) (v : View) 
   pub leaf : r.change.effects.leaf ≡ r.stock.leaf
   pub deed : r.change.effects.deed ≡ inserted r.row
   pub fits : apply.Fits z r.change m.apply early v
-
--- no cell was locked yet
-abbrev pub is_begun : Apply → Bool
-is_begun (Upgrading i) = i == 0
-is_begun m = false
 
 abbrev pub free_at : Stage → Apply → Bool
 free_at stage.Apply m = is_begun m

@@ -1,8 +1,8 @@
 //! One attempt of an insert, step by step.
-ghost use Rattle.std.specs.Prelude.{◌≡◌, ◌≢◌, ℕ, ◌+◌, ◌-◌, ◌<◌, ◌≤◌, List, length, Some, None, true, false};
+ghost use Rattle.std.specs.Prelude.{◌≡◌, ◌≢◌, ℕ, ◌+◌, ◌-◌, ◌<◌, ◌≤◌, List, length, Some, None, true, false, Result, ⊤};
 ghost use Rattle.art_attempt.specs.Asking.{Answers};
 ghost use Rattle.art_attempt.specs.Inserting.{Fits, HasMade, HasPlace, HasSupplies, HasVouched, IsFinding, IsRoom};
-ghost use Rattle.art_attempt.specs.Inserting.{IsRestartBy, IsOverlapBy, asks, check_of, deed_at, ended_at, entered_by, entered_so, finding_asks, found_at, free_at, given_up, is_begun, is_free};
+ghost use Rattle.art_attempt.specs.Inserting.{IsRestartBy, IsOverlapBy, asks, check_of, deed_at, ended_at, entered_by, entered_so, finding_asks, found_at, free_at, given_up, is_free};
 ghost use Rattle.art_attempt.specs.Inserting.{apply_asks, apply_left, steps_left, supply_asks, vouching_asks};
 ghost use Rattle.art_attempt.specs.Rooms.{SameRow, demand_of};
 ghost use Rattle.art_attempt.specs.Trying.{HasSpent, StillTries};
@@ -12,12 +12,14 @@ ghost use Rattle.art_find.specs.declared.verdicts.Verdict.TheVariants as verdict
 ghost use Rattle.art_frame.specs.Stocks.{HasStock};
 ghost use Rattle.art_gather.specs.Reserve.{HasAll};
 ghost use Rattle.art_gather.specs.Vouching.{ended_at as vouched_at};
-ghost use Rattle.art_gather.specs.declared.vouching.Vouched.TheVariants.{Unchanged as unchanged};
+ghost use Rattle.art_gather.specs.declared.vouching.Vouched.TheVariants.{Changed as changed_cell, Unchanged as unchanged};
 ghost use Rattle.art_machine.specs.Acting.{Answers as ActionAnswers, goes_on, passed, steps_in, telling};
+ghost use Rattle.art_machine.specs.Turns.{Spends};
 ghost use Rattle.art_machine.specs.declared.actions.Action.{Action as ActionOf};
-ghost use Rattle.art_make.specs.Apply.{brings, ended_at as made_at, fault_of};
+ghost use Rattle.art_make.specs.Apply.{brings, ended_at as made_at, fault_of, is_begun};
 ghost use Rattle.art_find.specs.Findings.{position_at};
 ghost use Rattle.art_step.specs.declared.faults.Changed.{Changed};
+ghost use Rattle.art_step.specs.declared.faults.UpgradeFault.{UpgradeFault as FaultOf};
 ghost use Rattle.art_step.specs.declared.faults.UpgradeFault.TheVariants.{Changed as changed};
 ghost use Rattle.art_step.specs.declared.views.Sizes.{Sizes};
 ghost use Rattle.art_step.specs.declared.views.View.{View};
@@ -26,8 +28,8 @@ use crate::Room;
 use crate::rooms::demand_of;
 use art_cell::{Cell, Pool};
 use art_find::{Finding, Position, Verdict, look};
-use art_gather::{Reserve, Reserved, Vouched, Vouching, read_cells};
-use art_machine::{Action, Answer, perform};
+use art_gather::{Reserve, Reserved, Vouched, Vouching};
+use art_machine::{Action, Answer};
 use art_make::Apply;
 use art_plan::{needed, plan_insert};
 use art_step::{EpochSteps, Stamp, UpgradeFault};
@@ -317,27 +319,7 @@ impl Inserting {
         self.settled(room, position, answer);
     }
 
-    /// Writes words of the leaf that comes, as long as more than one is to be written and more than one turn is left.
-    #[inline(always)]
-    fn pack_all<S: EpochSteps>(&mut self, steps: &mut S, room: &Room, left: &mut u32)
-        requires stage { self.old.stage ≡ stages.Reserve }
-        requires short { length room.now.row.key.items ≤ 64 }
-        requires turn { 0 < left.old }
-        requires fits { (u : View) × Fits (S.sizes steps.old) u self.old room.now (S.view steps.old) }
-        ensures only { S.only steps.old steps.new }
-        ensures stage { self.new.stage ≡ stages.Reserve }
-        ensures turn { 0 < left.new }
-        ensures less { left.new ≤ left.old }
-        ensures made { (S.view steps.new).steps + left.new ≡ (S.view steps.old).steps + left.old }
-        ensures fits { (u : View) → Fits (S.sizes steps.old) u self.old room.now (S.view steps.old) →
-            Fits (S.sizes steps.old) u self.new room.now (S.view steps.new) }
-    {
-        let key = room.row.key.as_slice();
-        self.reserve
-            .pack_on(steps, key, room.row.value, &room.stock, left);
-    }
-
-    /// Makes steps until all is in hand, or a pool gave no number, as long as more than one turn is left.
+    /// Brings numbers into the hand, as long as more than one turn is left.
     fn supply_all<S: EpochSteps>(&mut self, steps: &mut S, room: &mut Room, left: &mut u32)
         requires stage { self.old.stage ≡ stages.Reserve }
         requires short { length room.old.row.key.items ≤ 64 }
@@ -347,57 +329,18 @@ impl Inserting {
         ensures row { SameRow room.old room.new }
         ensures free { is_free self.new ≡ true }
         ensures not_overlaps { ended_at self.new ≢ Some overlaps }
-        ensures turn { 0 < left.new }
-        ensures less { left.new ≤ left.old }
-        ensures made { (S.view steps.new).steps + left.new ≡ (S.view steps.old).steps + left.old }
+        ensures turns { Spends (S.view steps.old) (S.view steps.new) left.old left.new }
         ensures fits { (u : View) → Fits (S.sizes steps.old) u self.old room.old (S.view steps.old) →
             Fits (S.sizes steps.old) u self.new room.new (S.view steps.new) }
     {
-        while *left > 1 {
-            match self.stage {
-                Stage::Reserve => {}
-                _ => return,
-            }
-            self.pack_all(steps, room, left);
-            if *left == 1 {
-                return;
-            }
-            let key = room.row.key.as_slice();
-            let Some(asked) = self.reserve.next(key, room.row.value, &room.stock) else {
-                return;
-            };
-            let answer = perform(steps, asked, None);
-            *left -= 1;
-            self.supply_told(room, answer);
-        }
+        let demand = demand_of(room.sizes, &self.position.verdict);
+        let key = room.row.key.as_slice();
+        self.reserve
+            .run(steps, &demand, key, room.row.value, &mut room.stock, left);
+        self.supply_on(room);
     }
 
-    /// Makes the reads of the cells that are vouched for, as long as more than one turn is left.
-    fn read_all<S: EpochSteps>(&mut self, steps: &mut S, room: &mut Room, left: &mut u32)
-        requires stage { self.old.stage ≡ stages.Vouching }
-        requires turn { 0 < left.old }
-        requires fits { (u : View) × Fits (S.sizes steps.old) u self.old room.old (S.view steps.old) }
-        ensures only { S.only steps.old steps.new }
-        ensures stage { self.new.stage ≡ stages.Vouching }
-        ensures row { SameRow room.old room.new }
-        ensures turn { 0 < left.new }
-        ensures less { left.new ≤ left.old }
-        ensures made { (S.view steps.new).steps + left.new ≡ (S.view steps.old).steps + left.old }
-        ensures fits { (u : View) → Fits (S.sizes steps.old) u self.old room.old (S.view steps.old) →
-            Fits (S.sizes steps.old) u self.new room.new (S.view steps.new) }
-    {
-        let both = needed(&self.position.verdict).above;
-        read_cells(
-            steps,
-            &mut self.vouching,
-            &self.position,
-            both,
-            &mut room.read_set,
-            left,
-        );
-    }
-
-    /// Makes steps until the cells are read and checked, as long as more than one turn is left.
+    /// Reads and checks the cells, as long as more than one turn is left.
     fn vouch_all<S: EpochSteps>(&mut self, steps: &mut S, room: &mut Room, left: &mut u32)
         requires stage { self.old.stage ≡ stages.Vouching }
         requires turn { 0 < left.old }
@@ -406,26 +349,14 @@ impl Inserting {
         ensures row { SameRow room.old room.new }
         ensures free { is_free self.new ≡ true }
         ensures not_overlaps { ended_at self.new ≢ Some overlaps }
-        ensures turn { 0 < left.new }
-        ensures less { left.new ≤ left.old }
-        ensures made { (S.view steps.new).steps + left.new ≡ (S.view steps.old).steps + left.old }
+        ensures turns { Spends (S.view steps.old) (S.view steps.new) left.old left.new }
         ensures fits { (u : View) → Fits (S.sizes steps.old) u self.old room.old (S.view steps.old) →
             Fits (S.sizes steps.old) u self.new room.new (S.view steps.new) }
     {
-        while *left > 1 {
-            match self.stage {
-                Stage::Vouching => {}
-                _ => return,
-            }
-            let Some(asked) = self.vouching.next(&self.position) else {
-                return;
-            };
-            let Some(answer) = look(steps, asked) else {
-                return;
-            };
-            *left -= 1;
-            self.vouch_told(room, answer);
-        }
+        let both = needed(&self.position.verdict).above;
+        self.vouching
+            .run(steps, &self.position, both, &mut room.read_set, left);
+        self.vouch_on(room);
     }
 
     /// Makes all steps that are left of the change; where no cell is locked yet, as long as more than one turn is left.
@@ -444,26 +375,8 @@ impl Inserting {
         ensures fits { (u : View) → Fits (S.sizes steps.old) u self.old room.old (S.view steps.old) →
             Fits (S.sizes steps.old) u self.new room.new (S.view steps.new) }
     {
-        loop {
-            match self.stage {
-                Stage::Apply => {}
-                _ => return,
-            }
-            if self.apply.is_writing() {
-                let written = self.apply.write_on(steps, &room.change);
-                *left = left.saturating_sub(written);
-                continue;
-            }
-            let Some(asked) = self.apply.next(&room.change) else {
-                return;
-            };
-            if is_begun(&self.apply) && *left <= 1 {
-                return;
-            }
-            let answer = perform(steps, asked, Some(&room.change.effects));
-            *left = left.saturating_sub(answer.steps());
-            self.make_told(room, answer);
-        }
+        self.apply.run(steps, &room.change, left);
+        self.make_on(room);
     }
 
     /// Makes the steps of the stage where it stands, but for one that tells its event before a change is made.
@@ -492,10 +405,7 @@ impl Inserting {
                 self.settle_on(steps, room, left);
             }
             Stage::Reserve => self.supply_all(steps, room, left),
-            Stage::Vouching => {
-                self.read_all(steps, room, left);
-                self.vouch_all(steps, room, left);
-            }
+            Stage::Vouching => self.vouch_all(steps, room, left),
             Stage::Apply => self.make_all(steps, room, left),
             Stage::Ended(_) => {}
         }
@@ -602,6 +512,20 @@ impl Inserting {
         let both = needed(&self.position.verdict).above;
         self.vouching
             .told(&self.position, both, &mut room.read_set, answer);
+        self.vouch_on(room);
+    }
+
+    /// It goes on; or all that is written was seen, and the change is planned; or a cell was changed.
+    #[inline(always)]
+    fn vouch_on(&mut self, room: &mut Room)
+        requires stage { self.old.stage ≡ stages.Vouching }
+        requires vouched { (z : Sizes) × (u : View) × (v : View) × IsRoom z room.old × HasVouched z u self.old room.old v }
+        ensures row { SameRow room.old room.new }
+        ensures anew { ended_at self.new ≡ Some anew → vouched_at self.old.vouching ≡ Some changed_cell }
+        ensures free { is_free self.new ≡ true }
+        ensures not_overlaps { ended_at self.new ≢ Some overlaps }
+        ensures fits { (z : Sizes) (u v : View) → IsRoom z room.old → HasVouched z u self.old room.old v → Fits z u self.new room.new v }
+    {
         match self.vouching.ended() {
             None => {}
             Some(Vouched::Changed) => self.stage = Stage::Ended(Entered::Restart),
@@ -655,6 +579,19 @@ impl Inserting {
         ensures over { is_free self.new ≡ true → ended_at self.new ≢ None }
     {
         self.apply.told(&room.change, answer);
+        self.make_on(room);
+    }
+
+    /// It goes on; or the change is made, or was given up.
+    #[inline(always)]
+    fn make_on(&mut self, room: &mut Room)
+        requires stage { self.old.stage ≡ stages.Apply }
+        ensures row { SameRow room.old room.new }
+        ensures going { made_at self.old.apply ≡ None → self.new ≡ self.old }
+        ensures ended { (made : Result ⊤ FaultOf) → made_at self.old.apply ≡ Some made → self.new.stage ≡ stages.Ended (entered_so made) }
+        ensures apply { self.new.apply ≡ self.old.apply }
+        ensures fits { (z : Sizes) (u v : View) → IsRoom z room.old → HasMade z u self.old room.old v → Fits z u self.new room.new v }
+    {
         match self.apply.ended() {
             None => {}
             Some(made) => self.made(room, made),
@@ -723,18 +660,8 @@ fn free_at(stage: Stage, apply: &Apply) -> bool
     ensures { result ≡ free_at stage apply.now }
 {
     match stage {
-        Stage::Apply => is_begun(apply),
+        Stage::Apply => apply.is_begun(),
         Stage::Finding | Stage::Reserve | Stage::Vouching | Stage::Ended(_) => true,
-    }
-}
-
-/// Whether no cell was locked yet.
-pub fn is_begun(apply: &Apply) -> bool
-    ensures { result ≡ is_begun apply.now }
-{
-    match *apply {
-        Apply::Upgrading(index) => index == 0,
-        _ => false,
     }
 }
 

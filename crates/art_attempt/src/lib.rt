@@ -42,5 +42,5 @@ pub use art_frame;
 pub use art_gather;
 pub use art_plan;
 pub use driver::make;
-pub use inserting::{Entered, Inserting, Stage, is_begun, nowhere};
+pub use inserting::{Entered, Inserting, Stage, nowhere};
 pub use rooms::Room;

@@ -12,7 +12,8 @@ use Rattle.art_change.specs.declared.writes.Outcome.TheVariants.{New, Present, G
 use Rattle.art_change.specs.declared.writes.Write.{Write}
 use Rattle.art_epoch.specs.declared.limbo.Place.{Place}
 use Rattle.art_erase.proofs.Chosen.{goes_since}
-use Rattle.art_erase.proofs.Founds.{KeepsCheck, same_found}
+use Rattle.art_erase.proofs.Founds.{same_found}
+use Rattle.art_erase.specs.ArtGather.Reserve.{StayFound}
 use Rattle.art_erase.specs.ArtAttempt.declared.rooms.Room.{Room}
 use Rattle.art_erase.specs.ArtFrame.Closings.{is_ended}
 use Rattle.art_erase.specs.ArtFrame.declared.Blocker.{Blocker}
@@ -20,10 +21,10 @@ use Rattle.art_erase.specs.ArtFrame.declared.stocks.Stock.{Stock}
 use Rattle.art_step.specs.declared.views.Sizes.{Sizes}
 use Rattle.art_step.specs.declared.views.View.{View}
 
-module _ (z : Sizes) (u b : View) (r : Room) (stock : Stock) (v w : View) (before : u.steps ≤ b.steps) (later : v.steps ≤ w.steps) (keeps : KeepsCheck v w) where
+module _ (z : Sizes) (u b : View) (r : Room) (stock : Stock) (v w : View) (before : u.steps ≤ b.steps) (later : v.steps ≤ w.steps) (found : StayFound v w) (checked : w.checked ≡ v.checked) where
   gone_after : (j : Job) (t : Trying) (o : Outcome) (left : ℕ) → HasOutcome z b j t (record r { stock = stock }) o left v → IsErasedBy z u t r o w
-  gone_after Remove (Erasing m) (Gone value) left h = goes_since z u m.position b m.way r stock v w before later keeps h.chosen
-  gone_after Remove (Erasing m) (Exhausted c) left h = goes_since z u m.position b m.way r stock v w before later keeps h.1.chosen
+  gone_after Remove (Erasing m) (Gone value) left h = goes_since z u m.position b m.way r stock v w before later found checked h.chosen
+  gone_after Remove (Erasing m) (Exhausted c) left h = goes_since z u m.position b m.way r stock v w before later found checked h.1.chosen
   gone_after Remove (Erasing m) New left h = tt
   gone_after Remove (Erasing m) (Present stands) left h = tt
   gone_after Remove (Erasing m) Absent left h = tt
@@ -49,8 +50,9 @@ module _ (z : Sizes) (u : View) (ps : List Place) (m : Write) (r : Room) (qs : L
       let closed = closed_at z (key_of m.job r).items (value_of m.job r) k.ended v k.waiting qs m r m.closing is k.fits in
       let first = k.frame.later in
       let began = k.begun.base.later.steps in
-      let keeps : KeepsCheck k.ended v = record { found = same_found k.ended v (ap (λ (t : View). t.found) closed.is); checked = ap (λ (t : View). t.checked) closed.is } in
-      gone_after z u k.began r k.stock k.ended v (omega (arith, first, began)) k.later keeps m.job m.trying m.outcome m.left k.outcome
+      let found = same_found k.ended v (ap (λ (t : View). t.found) closed.is) in
+      let checked = ap (λ (t : View). t.checked) closed.is in
+      gone_after z u k.began r k.stock k.ended v (omega (arith, first, began)) k.later found checked m.job m.trying m.outcome m.left k.outcome
 
   crowded_gone : (t : Trying) (p : Blocker) → IsErasedBy z u t r (Crowded p) v
   crowded_gone (Inserting n) p = tt

@@ -104,7 +104,6 @@ impl Trying {
     }
 
     /// Makes the steps of the stage where it stands, one after another, but for one that tells its event before a change is made.
-    #[inline(always)]
     pub fn hurry<S: EpochSteps>(&mut self, steps: &mut S, room: &mut Room, left: &mut u32)
         requires turn { is_free self.old ≡ true → 0 < left.old }
         requires going { ended_at self.old ≡ None }

@@ -17,7 +17,7 @@ use Rattle.art_gather.specs.ArtPlan.declared.choose_remove.losses.Loss.{Loss}
 use Rattle.art_gather.specs.ArtPlan.declared.choose_remove.losses.Loss.TheVariants as loss
 use Rattle.art_attempt.specs.Trying.{StillTries, StoodAtCheck, at_check}
 use Rattle.art_attempt.specs.declared.rooms.Room.{Room}
-use Rattle.art_erase.proofs.Founds.{KeepsCheck}
+use Rattle.art_make.specs.Apply.{KeepsCheck}
 use Rattle.art_attempt.proofs.LastCheck.{none_stays, stood_stays}
 use Rattle.art_attempt.specs.ArtGather.Reserve.{StayFound}
 use Rattle.art_erase.specs.Erasing.{GoesBy, HasNoSmaller, IsChosen, IsNeverSeen, IsWay, LeavesOther, MayStay, leaves_by, locks_of, demand_of}
@@ -147,17 +147,17 @@ module _ (z : Sizes) (u : View) (t : Position) where
       (record { found = found; stood = stood; told = told; locks = locks; effects = effects })
 
   -- it went so since an earlier view too, whatever numbers are in hand, and still does until the next check
-  pub goes_since : (b : View) (way : Way) (r : Room) (stock : Stock) (v w : View) → u.steps ≤ b.steps → v.steps ≤ w.steps → KeepsCheck v w → GoesBy z b t way (record r { stock = stock }) v → GoesBy z u t way r w
-  goes_since b way r stock v w before more keeps goes = record {
+  pub goes_since : (b : View) (way : Way) (r : Room) (stock : Stock) (v w : View) → u.steps ≤ b.steps → v.steps ≤ w.steps → StayFound v w → w.checked ≡ v.checked → GoesBy z b t way (record r { stock = stock }) v → GoesBy z u t way r w
+  goes_since b way r stock v w before more found checked goes = record {
     found = goes.found;
-    stood = stood_stays v w keeps.checked z u b r.gone.key.items t r.read_set before more goes.stood;
-    told = told_later v w keeps.found z way t r.read_set r.gone u b before goes.told;
+    stood = stood_stays v w checked z u b r.gone.key.items t r.read_set before more goes.stood;
+    told = told_later v w found z way t r.read_set r.gone u b before goes.told;
     locks = goes.locks;
     effects = goes.effects;
   }
 
-  pub goes_later : (way : Way) (r : Room) (v w : View) → v.steps ≤ w.steps → KeepsCheck v w → GoesBy z u t way r v → GoesBy z u t way r w
-  goes_later way r v w more keeps goes = goes_since u way r r.stock v w (omega arith) more keeps goes
+  pub goes_later : (way : Way) (r : Room) (v w : View) → KeepsCheck v w → GoesBy z u t way r v → GoesBy z u t way r w
+  goes_later way r v w keeps goes = goes_since u way r r.stock v w (omega arith) keeps.steps keeps.found keeps.checked goes
 
 -- ---- where no smaller node was found
 

@@ -4,31 +4,21 @@ use Rattle.std.proofs.lemmas.Bool.{eq-eqb, ne_eqb}
 use Rattle.std.specs.Prelude.{Option, Some, None, Result, Ok, Err}
 use Rattle.art_attempt.specs.ArtGather.Reserve.{StayFound}
 use Rattle.art_cell.specs.declared.cells.Cell.{Cell}
-use Rattle.art_attempt.proofs.Given.{IsMade}
 use Rattle.art_machine.specs.Acting.{Answers, IsAllowed, IsLook, telling}
 use Rattle.art_machine.specs.declared.actions.Action.{Action}
 use Rattle.art_machine.specs.declared.actions.Action.TheVariants.{Begin, Read, ReadLeaf, Check, Settle, Upgrade, Claim, Write, WriteLeaf, Commit, Release, ClearBit, GiveBack, Free, ReadEpoch, StorePin, RaiseEpoch, ReadPin}
 use Rattle.art_machine.specs.declared.actions.Answer.{Answer}
 use Rattle.art_machine.specs.declared.actions.Answer.TheVariants.{Begun, Word, Checked, Upgraded, Done}
-use Rattle.art_machine.specs.declared.actions.Effects.{Effects}
 use Rattle.art_step.specs.Steps.Begin as begin
 use Rattle.art_step.specs.Steps.Check as check
-use Rattle.art_step.specs.Steps.Upgrade as upgrade
 use Rattle.art_step.specs.Views.{Member}
 use Rattle.art_step.specs.declared.deeds.Deed.{Deed}
 use Rattle.art_step.specs.declared.faults.Changed.{Changed}
-use Rattle.art_step.specs.declared.faults.UpgradeFault.{UpgradeFault}
-use Rattle.art_step.specs.declared.faults.UpgradeFault.TheVariants as fault
 use Rattle.art_step.specs.declared.views.Found.{Found}
 use Rattle.art_step.specs.declared.views.Sizes.{Sizes}
 use Rattle.art_step.specs.declared.views.Stamp.{Stamp}
 use Rattle.art_step.specs.declared.views.View.{View}
 use Rattle.art_step.specs.declared.views.Word.TheVariants.{Version}
-
--- what was found stays found, and the last check that succeeded is the same
-pub record KeepsCheck (v w : View) : Type 0 where
-  pub found : StayFound v w
-  pub checked : w.checked ≡ v.checked
 
 pub same_found : (v w : View) → w.found ≡ v.found → StayFound v w
 same_found v w is x there = subst (λ (xs : List Found). Member x xs) (sym is) there
@@ -73,49 +63,3 @@ look_keeps z d (Settle x) (Word y) v w is row = absurd row
 look_keeps z d (Settle x) (Upgraded r) v w is row = absurd row
 look_keeps z d (Settle x) Done v w is row = absurd row
 look_keeps z d a r v w is row = absurd is
-
--- a step of a change; nor does it touch the last check
-refused_keeps : (v w : View) (x : Stamp) (e : UpgradeFault) → upgrade.Refused v w x e → KeepsCheck v w
-refused_keeps v w x (fault.Changed e) row = record { found = more_found v w _ (ap (λ (t : View). t.found) row.3.is); checked = ap (λ (t : View). t.checked) row.3.is }
-refused_keeps v w x (fault.Exhausted e) row = record { found = same_found v w (ap (λ (t : View). t.found) row.2); checked = ap (λ (t : View). t.checked) row.2 }
-
-pub change_keeps : (z : Sizes) (v w : View) (e : Effects) (a : Action) (answer : Answer) → IsMade a → IsAllowed z (Some e) v a → Answers z (Some e) a answer v w → KeepsCheck v w
-change_keeps z v w e (Upgrade x) (Upgraded (Ok done)) is may row = record { found = more_found v w _ (ap (λ (t : View). t.found) row.is); checked = ap (λ (t : View). t.checked) row.is }
-change_keeps z v w e (Upgrade x) (Upgraded (Err f)) is may row = refused_keeps v w x f row
-change_keeps z v w e (Upgrade x) (Begun s) is may row = absurd row
-change_keeps z v w e (Upgrade x) (Word y) is may row = absurd row
-change_keeps z v w e (Upgrade x) (Checked s) is may row = absurd row
-change_keeps z v w e (Upgrade x) Done is may row = absurd row
-change_keeps z v w e (Claim n) (Begun s) is may row = absurd row
-change_keeps z v w e (Claim n) (Word y) is may row = absurd row
-change_keeps z v w e (Claim n) (Checked s) is may row = absurd row
-change_keeps z v w e (Claim n) (Upgraded s) is may row = absurd row
-change_keeps z v w e (Claim n) Done is may row = record { found = same_found v w (ap (λ (t : View). t.found) row.is); checked = ap (λ (t : View). t.checked) row.is }
-change_keeps z v w e (Write d i x) (Begun s) is may row = absurd row
-change_keeps z v w e (Write d i x) (Word y) is may row = absurd row
-change_keeps z v w e (Write d i x) (Checked s) is may row = absurd row
-change_keeps z v w e (Write d i x) (Upgraded s) is may row = absurd row
-change_keeps z v w e (Write d i x) Done is may row = record { found = same_found v w (ap (λ (t : View). t.found) (row may.holding (may.may.held, may.cell)).is); checked = ap (λ (t : View). t.checked) (row may.holding (may.may.held, may.cell)).is }
-change_keeps z v w e (Commit d b) (Begun s) is may row = absurd row
-change_keeps z v w e (Commit d b) (Word y) is may row = absurd row
-change_keeps z v w e (Commit d b) (Checked s) is may row = absurd row
-change_keeps z v w e (Commit d b) (Upgraded s) is may row = absurd row
-change_keeps z v w e (Commit d b) Done is may row = record { found = same_found v w (ap (λ (t : View). t.found) (row.outcome may.holding (may.first.held, may.cell)).is); checked = ap (λ (t : View). t.checked) (row.outcome may.holding (may.first.held, may.cell)).is }
-change_keeps z v w e (Release d b) (Begun s) is may row = absurd row
-change_keeps z v w e (Release d b) (Word y) is may row = absurd row
-change_keeps z v w e (Release d b) (Checked s) is may row = absurd row
-change_keeps z v w e (Release d b) (Upgraded s) is may row = absurd row
-change_keeps z v w e (Release d b) Done is may row = record { found = same_found v w (ap (λ (t : View). t.found) (row may.holding (may.may.0, may.cell)).is); checked = ap (λ (t : View). t.checked) (row may.holding (may.may.0, may.cell)).is }
-change_keeps z v w e (Begin x) answer is may row = absurd is
-change_keeps z v w e (Read x i) answer is may row = absurd is
-change_keeps z v w e (ReadLeaf x l i) answer is may row = absurd is
-change_keeps z v w e (Check x) answer is may row = absurd is
-change_keeps z v w e (Settle x) answer is may row = absurd is
-change_keeps z v w e (WriteLeaf l i x) answer is may row = absurd is
-change_keeps z v w e (ClearBit p i o) answer is may row = absurd is
-change_keeps z v w e (GiveBack x) answer is may row = absurd is
-change_keeps z v w e (Free x) answer is may row = absurd is
-change_keeps z v w e ReadEpoch answer is may row = absurd is
-change_keeps z v w e (StorePin x) answer is may row = absurd is
-change_keeps z v w e RaiseEpoch answer is may row = absurd is
-change_keeps z v w e (ReadPin q) answer is may row = absurd is

@@ -2,7 +2,7 @@
 use Rattle.std.proofs.Common.{◌≡◌, ◌≤◌, length, List, true, None, sym, ap, ◌∙◌, arith}
 use Rattle.art_attempt.proofs.Free.{begun_locking, begun_made, locking_none}
 use Rattle.art_attempt.proofs.Tries.{later_first, still_later}
-use Rattle.art_attempt.specs.Inserting.{is_begun}
+use Rattle.art_make.specs.Apply.{is_begun}
 use Rattle.art_attempt.specs.Trying.{StillTries}
 use Rattle.art_attempt.specs.declared.rooms.Room.{Room}
 use Rattle.art_erase.proofs.Finds.{ends_reading, within_so}

@@ -1,9 +1,10 @@
 -- The cells are vouched for, with a lower node or without, and the change is made.
-use Rattle.std.proofs.Common.{◌≡◌, ◌<◌, ℕ, Bool, true, false, nat_lt, List, Option, Some, None, inl, inr, refl, sym, ap, ◌∙◌, subst, arith, ⊎_elim}
+use Rattle.std.proofs.Common.{◌≡◌, ◌<◌, ◌≤◌, ℕ, Bool, true, false, nat_lt, List, Option, Some, None, inl, inr, refl, sym, ap, ◌∙◌, subst, arith, ⊎_elim}
 use Rattle.std.specs.Prelude.{Ok, Err, Result, ⊤, if◌then◌else◌}
 use Rattle.std.proofs.lemmas.Bool.{cases_Bool, ltb-true}
 use Rattle.std.proofs.lemmas.Option.{same_Some}
 use Rattle.art_attempt.proofs.Enters.{vouched_as}
+use Rattle.art_attempt.proofs.Looks.{no_fewer}
 use Rattle.art_attempt.proofs.Spent.{few_looks}
 use Rattle.art_attempt.proofs.Tries.{checked_since, event_since, limbo_committed, rest_committed, standing_takes, still_fails, still_later, still_reads}
 use Rattle.art_attempt.proofs.Tries.{still_takes, stock_fails, stock_reads}
@@ -25,7 +26,7 @@ use Rattle.art_gather.specs.ArtPlan.ChooseRemove.Seen.{AreSeen, IsLowerSeen, IsS
 use Rattle.art_erase.specs.declared.erasing.Way.{Way}
 use Rattle.art_erase.specs.declared.erasing.Way.TheVariants as way
 use Rattle.art_attempt.specs.ArtPlan.ChooseInsert.Plans.{LocksOnly}
-use Rattle.art_erase.proofs.Chosen.{stood_now}
+use Rattle.art_erase.proofs.Chosen.{chosen_later, chosen_stays, goes_later, leaves_same, stood_now}
 use Rattle.art_erase.proofs.Joins.{may_merge}
 use Rattle.art_gather.proofs.LowerSeen.{ended_fits, ends_known, ends_seen}
 use Rattle.art_erase.proofs.Finds.{within_so}
@@ -43,7 +44,10 @@ use Rattle.art_attempt.proofs.ArtFrame.Stocked.{linked_are_in, stock_commits}
 use Rattle.art_attempt.specs.ArtFrame.Stocks.{IsIn, node_in}
 use Rattle.art_attempt.specs.ArtGather.Vouching as vouching
 use Rattle.art_attempt.proofs.ArtGather.Vouches.{was_vouched}
-use Rattle.art_attempt.specs.ArtGather.Vouching.{CheckedSince, IsVouched, IsVouching, written_above}
+use Rattle.art_attempt.specs.ArtGather.Reserve.{StayFound}
+use Rattle.art_attempt.specs.ArtGather.Vouching.{CheckedSince, IsVouched, IsVouching, KnowsHere, written_above}
+use Rattle.art_find.specs.Kept.{StaysRead}
+use Rattle.art_find.specs.ReadSets.{node_of}
 use Rattle.art_attempt.specs.ArtGather.declared.vouching.Vouched.{Vouched}
 use Rattle.art_attempt.specs.ArtGather.declared.vouching.Vouched.TheVariants.{Unchanged, Changed}
 use Rattle.art_attempt.specs.ArtGather.declared.vouching.Vouching.{Vouching}
@@ -55,7 +59,8 @@ use Rattle.art_gather.specs.declared.lowering.Lowering.{Lowering}
 use Rattle.art_gather.specs.declared.lowering.Lowering.TheVariants as lowers
 use Rattle.art_make.proofs.Told.{ends_as}
 use Rattle.art_make.specs.Apply as apply
-use Rattle.art_make.specs.Apply.{HasFailed, IsOver}
+use Rattle.art_make.specs.Apply.{HasFailed, IsOver, KeepsCheck}
+use Rattle.art_make.specs.declared.apply.Apply.{Apply}
 use Rattle.art_find.specs.Findings.{IsStanding}
 use Rattle.art_find.specs.Rereadings.{reads_next}
 use Rattle.art_find.specs.declared.rereadings.Rereading.{Rereading}
@@ -125,6 +130,25 @@ NoLower w = ⊤
 module _ (z : Sizes) (u : View) (m : Erasing) (r : Room) (v : View) (h : HasVouched z u m r v) where
   abbrev StageOf : Vouching → Type 0
   StageOf s = vouching.StageFits z r.gone.key.items (goes m.way) m.position s r.read_set h.early v
+
+  -- it goes on
+  pub vouched_on : (w : View) (next : Vouching) (read_set : ReadSet) → v.steps ≤ w.steps → StayFound v w → StaysRead (node_of r.read_set) (node_of read_set)
+      → (KnowsHere m.position r.read_set → node_of read_set ≡ node_of r.read_set) → vouching.Fits z r.gone.key.items (goes m.way) m.position next read_set h.early w
+      → HasVouched z u (record m { vouching = next }) (record r { read_set = read_set }) w
+  vouched_on w next read_set more found stays node fits =
+      let before = h.later.steps in
+      let same = fits.failures in
+      let few = no_fewer next h.early.failures in
+      record {
+        early = h.early;
+        base = h.base;
+        later = record { steps = omega (arith, before, more); failures = omega (arith, same, few) };
+        spent = h.spent;
+        has = h.has;
+        found = h.found;
+        chosen = chosen_stays m.position r.read_set read_set z m.way r.gone r.stock u w stays node (chosen_later v w found z m.way m.position r.read_set r.gone r.stock u h.chosen);
+        fits = fits;
+      }
 
   vouched_reads : (e : Vouched) → vouching.ended_at m.vouching ≡ Some e → StageOf (vouches.Ended e)
   vouched_reads e is = subst StageOf (vouched_as m.vouching e is) h.fits.stage
@@ -208,6 +232,39 @@ lowering_reads z k t n (lowers.CheckHere x) read_set lower u v fits = fits.0.vou
 lowering_reads z k t n (lowers.CheckLower x) read_set lower u v fits = fits.0.vouching.reads
 lowering_reads z k t n (lowers.Ended (lowered.Unchanged x)) read_set lower u v fits = fits.0.vouching.reads
 lowering_reads z k t n (lowers.Ended lowered.Changed) read_set lower u v fits = fits
+
+-- a lowering takes no failure back
+no_fewer_below : (m : Lowering) (n : ℕ) → n ≤ lowering.failures_of m n
+no_fewer_below (lowers.Beginning q) n = omega arith
+no_fewer_below (lowers.Named x) n = omega arith
+no_fewer_below (lowers.Above x q) n = omega arith
+no_fewer_below (lowers.Lower x q) n = omega arith
+no_fewer_below (lowers.CheckAbove x) n = omega arith
+no_fewer_below (lowers.CheckHere x) n = omega arith
+no_fewer_below (lowers.CheckLower x) n = omega arith
+no_fewer_below (lowers.Ended (lowered.Unchanged x)) n = omega arith
+no_fewer_below (lowers.Ended lowered.Changed) n = omega arith
+
+-- it goes on
+pub lower_on : (z : Sizes) (u : View) (m : Erasing) (r : Room) (v : View) (h : HasLower z u m r v) (w : View) (next : Lowering) (read_set : ReadSet) (lower : List (Option ℕ)) → v.steps ≤ w.steps → node_of read_set ≡ node_of r.read_set
+    → lowering.Fits z r.gone.key.items m.position h.lower next read_set lower h.early w → HasLower z u (record m { lowering = next }) (record r { read_set = read_set; lower = lower }) w
+lower_on z u m r v h w next read_set lower more same_node fits =
+    let before = h.later.steps in
+    let same = fits.failures in
+    let few = no_fewer_below next h.early.failures in
+    record {
+      early = h.early;
+      base = h.base;
+      later = record { steps = omega (arith, before, more); failures = omega (arith, same, few) };
+      spent = h.spent;
+      has = h.has;
+      found = h.found;
+      byte = h.byte;
+      lower = h.lower;
+      is = h.is;
+      leaves = leaves_same m.position r.read_set read_set same_node z r.gone h.byte (node h.lower) h.leaves;
+      fits = fits;
+    }
 
 pub lower_so : (z : Sizes) (u : View) (m : Erasing) (r : Room) (v : View) → HasLower z u m r v → EndsWithin z u 22300 r v
 lower_so z u m r v h =
@@ -329,6 +386,27 @@ smaller_ready z v t r layout made has shrinks there is k at =
 -- ---- the change
 
 module _ (z : Sizes) (u : View) (m : Erasing) (r : Room) (v : View) (h : HasMade z u m r v) where
+  -- it goes on
+  pub made_on : (w : View) (next : Apply) → KeepsCheck v w → apply.Fits z r.change next h.early w → HasMade z u (record m { apply = next }) r w
+  made_on w next keeps fits =
+      let before = h.later.steps in
+      let failed = h.later.failures in
+      let more = keeps.steps in
+      let again = keeps.failures in
+      record {
+        early = h.early;
+        base = h.base;
+        later = record { steps = omega (arith, before, more); failures = omega (arith, failed, again) };
+        spent = h.spent;
+        locks = record { only = h.locks.only; each = h.locks.each };
+        chosen = goes_later z u m.position m.way r v w keeps h.chosen;
+        has = h.has;
+        plain = h.plain;
+        leaf = h.leaf;
+        deed = h.deed;
+        fits = fits;
+      }
+
   module _ (made : Result ⊤ UpgradeFault) (is : apply.ended_at m.apply ≡ Some made) where
     over : IsOver h.early r.change made v
     over = (ends_as z h.early v r.change m.apply made h.fits is).0

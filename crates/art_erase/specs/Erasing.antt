@@ -1,6 +1,6 @@
 -- What an attempt of a removal asks, and what it knows between two of its steps.
 use Rattle.std.specs.Prelude.{◌≡◌, ◌⊎◌, ℕ, ◌-◌, ◌<◌, ◌++◌, List, [], Option, Some, None, Bool, true, false, Result, Ok, Err, ⊤}
-use Rattle.art_attempt.specs.Inserting.{is_begun, apply_left, tries_left}
+use Rattle.art_attempt.specs.Inserting.{apply_left, tries_left}
 use Rattle.art_attempt.specs.Trying.{HasChecked, HasSpent, IsKey, IsLater, StillTries, StoodAtCheck}
 use Rattle.art_attempt.specs.declared.rooms.Room.{Room}
 use Rattle.art_cell.specs.declared.Cell.{Cell as CellOf}
@@ -38,7 +38,7 @@ use Rattle.art_machine.specs.declared.actions.Action.{Action}
 use Rattle.art_machine.specs.declared.actions.Action.TheVariants.{Check, Settle}
 use Rattle.art_machine.specs.declared.actions.Answer.{Answer}
 use Rattle.art_make.specs.Apply as apply
-use Rattle.art_make.specs.Apply.{HasFailed, fault_of}
+use Rattle.art_make.specs.Apply.{HasFailed, fault_of, is_begun}
 use Rattle.art_make.specs.declared.apply.Apply.{Apply}
 use Rattle.art_model.specs.declared.commands.Answer.TheVariants as reply
 use Rattle.art_find.specs.ReadSets.{node_of}

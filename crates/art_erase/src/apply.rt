@@ -1,6 +1,6 @@
 //! How an attempt of a removal goes on once the cells were vouched for: the change is planned and made.
-ghost use Rattle.std.specs.Prelude.{◌≡◌, ◌≢◌, ℕ, ◌-◌, ◌<◌, None, Some, true, false};
-ghost use Rattle.art_attempt.specs.Inserting.{is_begun, apply_left};
+ghost use Rattle.std.specs.Prelude.{◌≡◌, ◌≢◌, ℕ, ◌-◌, ◌<◌, None, Some, true, false, Result, ⊤};
+ghost use Rattle.art_attempt.specs.Inserting.{apply_left};
 ghost use Rattle.art_attempt.specs.ArtPlan.ChooseInsert.Plans.{LocksOnly};
 ghost use Rattle.art_erase.specs.Erasing.{EndsWithin, Fits, GoesBy, HasLower, HasMade, HasVouched, IsChecked, IsKept, IsLockedBy, IsRemoval, IsRoom};
 ghost use Rattle.art_erase.specs.Erasing.{absent, ended_at, erased_so, is_free, lower_asks, made_asks, steps_left, vouching_asks};
@@ -8,14 +8,15 @@ ghost use Rattle.art_erase.specs.declared.erasing.Erased.TheVariants.{Restart as
 ghost use Rattle.art_erase.specs.declared.erasing.Stage.TheVariants as stages;
 ghost use Rattle.art_erase.specs.declared.erasing.Way.TheVariants as ways;
 ghost use Rattle.art_attempt.specs.ArtGather.Vouching.{ended_at as vouched_at};
-ghost use Rattle.art_attempt.specs.ArtGather.declared.vouching.Vouched.TheVariants.{Unchanged as unchanged};
+ghost use Rattle.art_attempt.specs.ArtGather.declared.vouching.Vouched.TheVariants.{Changed as changed_cell, Unchanged as unchanged};
 ghost use Rattle.art_gather.specs.Lowering.{ended_at as lowered_at};
-ghost use Rattle.art_gather.specs.declared.lowering.Lowered.TheVariants.{Unchanged as lowered};
+ghost use Rattle.art_gather.specs.declared.lowering.Lowered.TheVariants.{Changed as changed_lower, Unchanged as lowered};
 ghost use Rattle.art_machine.specs.Acting.{Answers as ActionAnswers, goes_on, steps_in, telling};
 ghost use Rattle.art_machine.specs.declared.actions.Action.{Action as ActionOf};
-ghost use Rattle.art_make.specs.Apply.{brings, ended_at as made_at, fault_of};
+ghost use Rattle.art_make.specs.Apply.{brings, ended_at as made_at, fault_of, is_begun};
 ghost use Rattle.art_plan.specs.Changes.{targets};
 ghost use Rattle.art_step.specs.declared.faults.Changed.{Changed};
+ghost use Rattle.art_step.specs.declared.faults.UpgradeFault.{UpgradeFault as FaultOf};
 ghost use Rattle.art_step.specs.declared.faults.UpgradeFault.TheVariants.{Changed as changed};
 ghost use Rattle.art_step.specs.declared.views.Sizes.{Sizes};
 ghost use Rattle.art_step.specs.declared.views.Stamp.{Stamp as StampOf};
@@ -47,6 +48,18 @@ impl Erasing {
     {
         self.vouching
             .told(&self.position, goes(self.way), &mut room.read_set, answer);
+        self.vouch_on(room);
+    }
+
+    /// It goes on; or all that is written was seen, and the change is planned; or a cell was changed.
+    pub(crate) fn vouch_on(&mut self, room: &mut Room)
+        requires stage { self.old.stage ≡ stages.Vouching }
+        requires vouched { (z : Sizes) × (u : View) × (v : View) × IsRoom z room.old × HasVouched z u self.old room.old v }
+        ensures kept { IsKept room.old room.new }
+        ensures anew { ended_at self.new ≡ Some anew → vouched_at self.old.vouching ≡ Some changed_cell }
+        ensures free { is_free self.new ≡ true }
+        ensures fits { (z : Sizes) (u v : View) → IsRoom z room.old → HasVouched z u self.old room.old v → Fits z u self.new room.new v }
+    {
         match self.vouching.ended() {
             None => {}
             Some(Vouched::Changed) => self.stage = Stage::Ended(Erased::Restart),
@@ -158,6 +171,18 @@ impl Erasing {
             ..
         } = room;
         self.lowering.told(&self.position, read_set, lower, answer);
+        self.lower_on(room);
+    }
+
+    /// It goes on; or all that is written was seen, and the change is planned; or a cell was changed.
+    pub(crate) fn lower_on(&mut self, room: &mut Room)
+        requires stage { self.old.stage ≡ stages.Lowering }
+        requires lower { (z : Sizes) × (u : View) × (v : View) × IsRoom z room.old × HasLower z u self.old room.old v }
+        ensures kept { IsKept room.old room.new }
+        ensures anew { ended_at self.new ≡ Some anew → lowered_at self.old.lowering ≡ Some changed_lower }
+        ensures free { is_free self.new ≡ true }
+        ensures fits { (z : Sizes) (u v : View) → IsRoom z room.old → HasLower z u self.old room.old v → Fits z u self.new room.new v }
+    {
         match self.lowering.ended() {
             None => {}
             Some(Lowered::Changed) => self.stage = Stage::Ended(Erased::Restart),
@@ -229,6 +254,19 @@ impl Erasing {
         ensures over { is_free self.new ≡ true → ended_at self.new ≢ None }
     {
         self.apply.told(&room.change, answer);
+        self.make_on(room);
+    }
+
+    /// It goes on; or the change is made, or was given up.
+    pub(crate) fn make_on(&mut self, room: &mut Room)
+        requires stage { self.old.stage ≡ stages.Apply }
+        ensures kept { IsKept room.old room.new }
+        ensures going { made_at self.old.apply ≡ None → self.new ≡ self.old }
+        ensures ended { (made : Result ⊤ FaultOf) → made_at self.old.apply ≡ Some made →
+            self.new.stage ≡ stages.Ended (erased_so room.old.gone.value made) }
+        ensures apply { self.new.apply ≡ self.old.apply }
+        ensures fits { (z : Sizes) (u v : View) → IsRoom z room.old → HasMade z u self.old room.old v → Fits z u self.new room.new v }
+    {
         match self.apply.ended() {
             None => {}
             Some(made) => self.made(room, made),

@@ -22,7 +22,7 @@ ghost use Rattle.art_step.specs.declared.views.Sizes.{Sizes as SizesOf};
 ghost use Rattle.art_step.specs.declared.views.View.{View};
 
 use art_attempt::art_gather::{Demand, Reserve, Reserved, Vouched, Vouching};
-use art_attempt::{Room, is_begun, nowhere};
+use art_attempt::{Room, nowhere};
 use art_cell::{Cell, Layout, Link, Node};
 use art_find::{Finding, Position, ReadSet, Rereading, Verdict};
 use art_gather::art_plan::{Loss, lost, other_child};
@@ -376,7 +376,7 @@ impl Erasing {
     }
 
     /// It goes on; or the smaller node is in hand; or there is none, and the larger one stays.
-    fn supply_on(&mut self, room: &Room, layout: Layout)
+    pub(crate) fn supply_on(&mut self, room: &Room, layout: Layout)
         ensures not_anew { ended_at self.new ≢ Some anew }
         ensures free { is_free self.new ≡ true }
         ensures fits { (z : SizesOf) (u v : View) → IsRoom z room.now → HasSupplies z u layout self.old room.now v →
@@ -501,13 +501,13 @@ fn free_at(stage: Stage, apply: &Apply) -> bool
     ensures { result ≡ free_at stage apply.now }
 {
     match stage {
-        Stage::Apply => is_begun(apply),
+        Stage::Apply => apply.is_begun(),
         _ => true,
     }
 }
 
 /// What is wanted in hand for a smaller node.
-fn demand_of(sizes: Sizes, layout: Layout) -> Demand
+pub(crate) fn demand_of(sizes: Sizes, layout: Layout) -> Demand
     ensures { result ≡ demand_of sizes layout }
 {
     Demand {

@@ -3,13 +3,13 @@
 ghost use Rattle.std.specs.Prelude.{◌≡◌, ℕ, ◌+◌, ◌<◌, ◌≤◌, length, None, true};
 ghost use Rattle.art_erase.specs.Erasing.{Fits, IsKept, ended_at, is_free, steps_left};
 ghost use Rattle.art_erase.specs.declared.erasing.Stage.TheVariants as stages;
+ghost use Rattle.art_machine.specs.Turns.{Spends};
 ghost use Rattle.art_step.specs.declared.views.View.{View};
 
-use crate::erasing::{Erased, Erasing, Stage, check_of, goes};
-use art_attempt::art_gather::read_cells;
-use art_attempt::{Room, is_begun};
+use crate::erasing::{Erased, Erasing, Stage, check_of, demand_of, goes};
+use art_attempt::Room;
+use art_cell::Layout;
 use art_find::look;
-use art_machine::perform;
 use art_step::EpochSteps;
 
 impl Erasing {
@@ -65,33 +65,30 @@ impl Erasing {
         self.settled(room, position, answer);
     }
 
-    /// Makes steps until a smaller node is in hand, or none was found, as long as more than one turn is left.
-    fn supply_all<S: EpochSteps>(&mut self, steps: &mut S, room: &mut Room, left: &mut u32)
-        requires stage { is_free self.old ≡ true }
+    /// Brings a smaller node into the hand, as long as more than one turn is left.
+    fn supply_all<S: EpochSteps>(
+        &mut self,
+        steps: &mut S,
+        room: &mut Room,
+        layout: Layout,
+        left: &mut u32,
+    )
+        requires stage { self.old.stage ≡ stages.Reserve layout }
         requires short { length room.old.gone.key.items ≤ 64 }
         requires turn { 0 < left.old }
         requires fits { (u : View) × Fits (S.sizes steps.old) u self.old room.old (S.view steps.old) }
         ensures only { S.only steps.old steps.new }
         ensures free { is_free self.new ≡ true }
         ensures kept { IsKept room.old room.new }
-        ensures turn { 0 < left.new }
-        ensures less { left.new ≤ left.old }
-        ensures made { (S.view steps.new).steps + left.new ≡ (S.view steps.old).steps + left.old }
+        ensures turns { Spends (S.view steps.old) (S.view steps.new) left.old left.new }
         ensures fits { (u : View) → Fits (S.sizes steps.old) u self.old room.old (S.view steps.old) →
             Fits (S.sizes steps.old) u self.new room.new (S.view steps.new) }
     {
-        while *left > 1 {
-            let Stage::Reserve(layout) = self.stage else {
-                return;
-            };
-            let key = room.gone.key.as_slice();
-            let Some(asked) = self.reserve.next(key, 0, &room.stock) else {
-                return;
-            };
-            let answer = perform(steps, asked, None);
-            *left -= 1;
-            self.supply_told(room, layout, answer);
-        }
+        let demand = demand_of(room.sizes, layout);
+        let key = room.gone.key.as_slice();
+        self.reserve
+            .run(steps, &demand, key, 0, &mut room.stock, left);
+        self.supply_on(room, layout);
     }
 
     /// Reads the words of the node that are missing, as long as more than one turn is left.
@@ -123,31 +120,7 @@ impl Erasing {
         }
     }
 
-    /// Makes the reads of the cell where the key stands before it is vouched for, as long as more than one turn is left.
-    fn read_vouched<S: EpochSteps>(&mut self, steps: &mut S, room: &mut Room, left: &mut u32)
-        requires stage { self.old.stage ≡ stages.Vouching }
-        requires turn { 0 < left.old }
-        requires fits { (u : View) × Fits (S.sizes steps.old) u self.old room.old (S.view steps.old) }
-        ensures only { S.only steps.old steps.new }
-        ensures stage { self.new.stage ≡ stages.Vouching }
-        ensures kept { IsKept room.old room.new }
-        ensures turn { 0 < left.new }
-        ensures less { left.new ≤ left.old }
-        ensures made { (S.view steps.new).steps + left.new ≡ (S.view steps.old).steps + left.old }
-        ensures fits { (u : View) → Fits (S.sizes steps.old) u self.old room.old (S.view steps.old) →
-            Fits (S.sizes steps.old) u self.new room.new (S.view steps.new) }
-    {
-        read_cells(
-            steps,
-            &mut self.vouching,
-            &self.position,
-            goes(self.way),
-            &mut room.read_set,
-            left,
-        );
-    }
-
-    /// Makes steps until the cells are read and checked, as long as more than one turn is left.
+    /// Reads and checks the cells, as long as more than one turn is left.
     fn vouch_all<S: EpochSteps>(&mut self, steps: &mut S, room: &mut Room, left: &mut u32)
         requires stage { self.old.stage ≡ stages.Vouching }
         requires turn { 0 < left.old }
@@ -155,26 +128,14 @@ impl Erasing {
         ensures only { S.only steps.old steps.new }
         ensures free { is_free self.new ≡ true }
         ensures kept { IsKept room.old room.new }
-        ensures turn { 0 < left.new }
-        ensures less { left.new ≤ left.old }
-        ensures made { (S.view steps.new).steps + left.new ≡ (S.view steps.old).steps + left.old }
+        ensures turns { Spends (S.view steps.old) (S.view steps.new) left.old left.new }
         ensures fits { (u : View) → Fits (S.sizes steps.old) u self.old room.old (S.view steps.old) →
             Fits (S.sizes steps.old) u self.new room.new (S.view steps.new) }
     {
-        while *left > 1 {
-            match self.stage {
-                Stage::Vouching => {}
-                _ => return,
-            }
-            let Some(asked) = self.vouching.next(&self.position) else {
-                return;
-            };
-            let Some(answer) = look(steps, asked) else {
-                return;
-            };
-            *left -= 1;
-            self.vouch_told(room, answer);
-        }
+        let both = goes(self.way);
+        self.vouching
+            .run(steps, &self.position, both, &mut room.read_set, left);
+        self.vouch_on(room);
     }
 
     /// The same, with the node that takes the place of the one that goes.
@@ -185,26 +146,18 @@ impl Erasing {
         ensures only { S.only steps.old steps.new }
         ensures free { is_free self.new ≡ true }
         ensures kept { IsKept room.old room.new }
-        ensures turn { 0 < left.new }
-        ensures less { left.new ≤ left.old }
-        ensures made { (S.view steps.new).steps + left.new ≡ (S.view steps.old).steps + left.old }
+        ensures turns { Spends (S.view steps.old) (S.view steps.new) left.old left.new }
         ensures fits { (u : View) → Fits (S.sizes steps.old) u self.old room.old (S.view steps.old) →
             Fits (S.sizes steps.old) u self.new room.new (S.view steps.new) }
     {
-        while *left > 1 {
-            match self.stage {
-                Stage::Lowering => {}
-                _ => return,
-            }
-            let Some(asked) = self.lowering.next(&self.position) else {
-                return;
-            };
-            let Some(answer) = look(steps, asked) else {
-                return;
-            };
-            *left -= 1;
-            self.lower_told(room, answer);
-        }
+        let Room {
+            read_set,
+            lower,
+            ..
+        } = room;
+        self.lowering
+            .run(steps, &self.position, read_set, lower, left);
+        self.lower_on(room);
     }
 
     /// Makes all steps that are left of the change; where no cell is locked yet, as long as more than one turn is left.
@@ -222,26 +175,8 @@ impl Erasing {
         ensures fits { (u : View) → Fits (S.sizes steps.old) u self.old room.old (S.view steps.old) →
             Fits (S.sizes steps.old) u self.new room.new (S.view steps.new) }
     {
-        loop {
-            match self.stage {
-                Stage::Apply => {}
-                _ => return,
-            }
-            if self.apply.is_writing() {
-                let written = self.apply.write_on(steps, &room.change);
-                *left = left.saturating_sub(written);
-                continue;
-            }
-            let Some(asked) = self.apply.next(&room.change) else {
-                return;
-            };
-            if is_begun(&self.apply) && *left <= 1 {
-                return;
-            }
-            let answer = perform(steps, asked, Some(&room.change.effects));
-            *left = left.saturating_sub(answer.steps());
-            self.make_told(room, answer);
-        }
+        self.apply.run(steps, &room.change, left);
+        self.make_on(room);
     }
 
     /// Makes the steps of the stage where it stands, but for one that tells its event before a change is made.
@@ -268,12 +203,9 @@ impl Erasing {
                 self.find_all(steps, room, left);
                 self.settle_on(steps, room, left);
             }
-            Stage::Reserve(_) => self.supply_all(steps, room, left),
+            Stage::Reserve(layout) => self.supply_all(steps, room, layout, left),
             Stage::Reading(_) => self.read_all(steps, room, left),
-            Stage::Vouching => {
-                self.read_vouched(steps, room, left);
-                self.vouch_all(steps, room, left);
-            }
+            Stage::Vouching => self.vouch_all(steps, room, left),
             Stage::Lowering => self.lower_all(steps, room, left),
             Stage::Apply => self.make_all(steps, room, left),
             Stage::Ended(_) => {}

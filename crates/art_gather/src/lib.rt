@@ -41,8 +41,15 @@
 //!
 //! # Machines
 //!
-//! Both are values of scalars with `next` and `told`, as those of `art_epoch` and `art_find`; the stock, the place and the
-//! words that were read stand beside them. Both ask for actions of `art_machine`.
+//! All three are values of scalars with `next` and `told`, as those of `art_epoch` and `art_find`; the stock, the place and the
+//! words that were read stand beside them. They ask for actions of `art_machine`.
+//!
+//! Who has a carrier of steps at hand calls `run`, which asks, makes the step and tells the answer, one after another. Each
+//! step takes one turn. The last turn is left, so that what comes after the machine can still be asked for.
+//!
+//! ```text
+//! run: while more than one turn is left: next ──► perform ──► told
+//! ```
 //!
 //! # What is proved
 //!
@@ -50,7 +57,8 @@
 //! steps, failures, what was found, and the hand, which has just the numbers of the stock. It is `Full` only where a number of
 //! that pool was wanted and each free word was found without a bit, or lost its bit to another pass. A vouching only reads;
 //! where it ends `Unchanged`, all words are known and each cell was vouched for; where `Changed`, one check failed. A reserve
-//! makes at most two steps for each free word of the two pools, and ten; a vouching makes at most 532.
+//! makes at most two steps for each free word of the two pools, and ten; a vouching makes at most 532. After a `run` the machine
+//! has ended, or one turn is left; and as many turns were spent as steps were made.
 #![tactic(auto)]
 
 mod lowering;
@@ -60,4 +68,4 @@ mod vouching;
 pub use art_plan;
 pub use lowering::{Lowered, Lowering};
 pub use reserve::{Demand, Reserve, Reserved};
-pub use vouching::{Vouched, Vouching, read_cells};
+pub use vouching::{Vouched, Vouching};

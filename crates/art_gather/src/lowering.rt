@@ -50,7 +50,7 @@
 //! (`known` of `ended`); and the child that `other_child` tells then, with its byte, is C (`other`). The plan does not refuse C for
 //! being P, nor for a prefix that is too long (`IsReadBelow`). Where it ends `Changed`, there is one failure more. It makes at most
 //! 535 steps.
-ghost use Rattle.std.specs.Prelude.{◌≡◌, ℕ, ◌+◌, ◌-◌, ◌<◌, ◌≤◌, List, true, Option, Some, None};
+ghost use Rattle.std.specs.Prelude.{◌≡◌, ◌⊎◌, ℕ, ◌+◌, ◌-◌, ◌<◌, ◌≤◌, List, true, Option, Some, None};
 ghost use Rattle.art_cell.specs.declared.cells.Link.{Link as LinkOf};
 ghost use Rattle.art_cell.specs.declared.cells.Link.TheVariants.{Node as node_link};
 ghost use Rattle.art_cell.specs.declared.cells.Node.{Node as NodeOf};
@@ -58,9 +58,11 @@ ghost use Rattle.art_plan.specs.ChooseRemove.Plans.{HasOther};
 ghost use Rattle.art_plan.specs.ChooseRemove.Seen.{AreSeen, IsLowerSeen, StillKnown};
 ghost use Rattle.art_plan.specs.declared.choose_remove.lowers.Lower.{Lower as LowerOf};
 ghost use Rattle.art_machine.specs.Acting.{Answers, telling};
+ghost use Rattle.art_machine.specs.Turns.{Spends};
 ghost use Rattle.art_machine.specs.declared.actions.Action.{Action as ActionOf};
 ghost use Rattle.art_gather.specs.Vouching.{HasLeft, KnowsAbove};
 ghost use Rattle.art_gather.specs.Lowering.{Fits, IsBelow, IsLowering, IsReadBelow, WouldLead, after_check, asks, ended_at, steps_left};
+ghost use Rattle.art_gather.specs.declared.lowering.Lowered.{Lowered as LoweredOf};
 ghost use Rattle.art_gather.specs.declared.lowering.Lowered.TheVariants.{Unchanged as unchanged};
 ghost use Rattle.art_gather.specs.declared.lowering.Lowering.TheVariants.{Beginning as beginning, Named as named, Above as above_read, Lower as lower_read};
 ghost use Rattle.art_find.specs.ReadSets.{above_of, node_of};
@@ -76,9 +78,9 @@ ghost use Rattle.art_step.specs.declared.views.Stamp.{Stamp as StampOf};
 ghost use Rattle.art_step.specs.declared.views.View.{View};
 
 use art_cell::{Cell, Node, Reads};
-use art_find::{Above, Position, ReadSet, Rereading};
+use art_find::{Above, Position, ReadSet, Rereading, look};
 use art_machine::{Action, Answer};
-use art_step::Stamp;
+use art_step::{EpochSteps, Stamp};
 
 /// How a lowering ended.
 #[derive(Clone, Copy)]
@@ -168,6 +170,38 @@ impl Lowering {
             }
             Lowering::Ended(lowered) => Lowering::Ended(lowered),
         };
+    }
+
+    /// Makes its steps, one after another, as long as more than one turn is left.
+    pub fn run<S: EpochSteps>(
+        &mut self,
+        steps: &mut S,
+        position: &Position,
+        read_set: &mut ReadSet,
+        lower: &mut Reads,
+        left: &mut u32,
+    )
+        requires some { 0 < left.old }
+        requires fits { (k : List ℕ) × (n : NodeOf) × (u : View) ×
+            Fits (S.sizes steps.old) k position.now n self.old read_set.old lower.old u (S.view steps.old) }
+        ensures only { S.only steps.old steps.new }
+        ensures turns { Spends (S.view steps.old) (S.view steps.new) left.old left.new }
+        ensures last { ((r : LoweredOf) × (ended_at self.new ≡ Some r)) ⊎ (left.new ≡ 1) }
+        ensures node { node_of read_set.new ≡ node_of read_set.old }
+        ensures fits { (k : List ℕ) (n : NodeOf) (u : View) →
+            Fits (S.sizes steps.old) k position.now n self.old read_set.old lower.old u (S.view steps.old) →
+            Fits (S.sizes steps.old) k position.now n self.new read_set.new lower.new u (S.view steps.new) }
+    {
+        while *left > 1 {
+            let Some(asked) = self.next(position) else {
+                return;
+            };
+            let Some(answer) = look(steps, asked) else {
+                unreachable!();
+            };
+            *left -= 1;
+            self.told(position, read_set, lower, answer);
+        }
     }
 
     /// How it ended, if it has.

@@ -1,5 +1,5 @@
 //! Numbers come into the hand, and the leaf gets its words.
-ghost use Rattle.std.specs.Prelude.{◌≡◌, ℕ, ◌+◌, ◌<◌, ◌≤◌, List, length, Some, None, true};
+ghost use Rattle.std.specs.Prelude.{◌≡◌, ◌⊎◌, ℕ, ◌+◌, ◌<◌, ◌≤◌, List, length, Some, None, true};
 ghost use Rattle.art_cell.specs.Children.{number_of};
 ghost use Rattle.art_cell.specs.declared.layouts.Pool.TheVariants.{Leaves as leaves};
 ghost use Rattle.art_epoch.specs.Taking.{Fits as TakingFits};
@@ -7,6 +7,7 @@ ghost use Rattle.art_frame.specs.Stocks.{HasStock, node_in};
 ghost use Rattle.art_machine.specs.Acting.{Answers, IsAllowed};
 ghost use Rattle.art_gather.specs.Reserve.{Fits, HasLeafWords, IsSoon, IsSought, OnlySupplies, asks, leaf_looks};
 ghost use Rattle.art_gather.specs.Reserve.{leaf_steps};
+ghost use Rattle.art_machine.specs.Turns.{Spends};
 ghost use Rattle.art_machine.specs.declared.actions.Action.{Action as ActionOf};
 ghost use Rattle.art_machine.specs.declared.actions.Answer.{Answer as AnswerOf};
 ghost use Rattle.art_gather.specs.declared.reserve.Reserve.TheVariants.{Leaf as leaf_sought, LeafWriter as packed, Node as node_sought};
@@ -56,6 +57,7 @@ pub enum Reserve {
 impl Reserve {
     ghost use Rattle.std.specs.Prelude.{IfSome};
     ghost use Rattle.art_gather.specs.Reserve.{ended_at};
+    ghost use Rattle.art_gather.specs.declared.reserve.Reserved.{Reserved as ReservedOf};
 
     /// At its beginning.
     pub fn new(demand: &Demand, stock: &mut Stock) -> Reserve
@@ -115,7 +117,7 @@ impl Reserve {
 
     /// Writes words of the leaf, as long as more than one is to be written and more than one turn is left.
     #[inline(always)]
-    pub fn pack_on<S: EpochSteps>(
+    fn pack_on<S: EpochSteps>(
         &mut self,
         steps: &mut S,
         key: &[u8],
@@ -128,10 +130,7 @@ impl Reserve {
         requires fits { (demand : DemandOf) × (u : View) ×
             Fits (S.sizes steps.old) demand key.now value self.old stock.now u (S.view steps.old) }
         ensures only { S.only steps.old steps.new }
-        ensures some { 0 < left.new }
-        ensures less { left.new ≤ left.old }
-        ensures made { (S.view steps.new).steps + left.new ≡ (S.view steps.old).steps + left.old }
-        ensures going { ended_at self.new ≡ ended_at self.old }
+        ensures turns { Spends (S.view steps.old) (S.view steps.new) left.old left.new }
         ensures fits { (demand : DemandOf) (u : View) →
             Fits (S.sizes steps.old) demand key.now value self.old stock.now u (S.view steps.old) →
             Fits (S.sizes steps.old) demand key.now value self.new stock.now u (S.view steps.new) }
@@ -155,6 +154,40 @@ impl Reserve {
             *left -= 1;
         }
         *self = Reserve::LeafWriter(leaf_writer);
+    }
+
+    /// Makes its steps, one after another, as long as more than one turn is left.
+    pub fn run<S: EpochSteps>(
+        &mut self,
+        steps: &mut S,
+        demand: &Demand,
+        key: &[u8],
+        value: u64,
+        stock: &mut Stock,
+        left: &mut u32,
+    )
+        requires few { length key.now ≤ 64 }
+        requires some { 0 < left.old }
+        requires fits { (u : View) × Fits (S.sizes steps.old) demand.now key.now value self.old stock.old u (S.view steps.old) }
+        ensures only { S.only steps.old steps.new }
+        ensures turns { Spends (S.view steps.old) (S.view steps.new) left.old left.new }
+        ensures last { ((r : ReservedOf) × (ended_at self.new ≡ Some r)) ⊎ (left.new ≡ 1) }
+        ensures keeps { HasLeafWords stock.old → HasLeafWords stock.new }
+        ensures fits { (u : View) → Fits (S.sizes steps.old) demand.now key.now value self.old stock.old u (S.view steps.old) →
+            Fits (S.sizes steps.old) demand.now key.now value self.new stock.new u (S.view steps.new) }
+    {
+        while *left > 1 {
+            self.pack_on(steps, key, value, stock, left);
+            if *left == 1 {
+                return;
+            }
+            let Some(asked) = self.next(key, value, stock) else {
+                return;
+            };
+            let answer = perform(steps, asked, None);
+            *left -= 1;
+            self.told(demand, stock, answer);
+        }
     }
 
     /// How it ended, if it has.

@@ -1,8 +1,11 @@
 //! All words of the cells that are written are seen, and both are checked.
 ghost use Rattle.std.specs.Prelude.{◌≡◌, ◌⊎◌, ℕ, ◌+◌, ◌-◌, ◌<◌, ◌≤◌, List, Bool, Some, None};
 ghost use Rattle.art_machine.specs.Acting.{Answers, telling};
+ghost use Rattle.art_machine.specs.Turns.{Spends};
 ghost use Rattle.art_machine.specs.declared.actions.Action.{Action as ActionOf};
+ghost use Rattle.art_gather.specs.Reserve.{StayFound};
 ghost use Rattle.art_gather.specs.Vouching.{Fits, HasLeft, IsPastAbove, IsPastReads, IsVouching, KnowsAbove, KnowsHere, after_check, asks, ended_at, steps_left, written_above};
+ghost use Rattle.art_gather.specs.declared.vouching.Vouched.{Vouched as VouchedOf};
 ghost use Rattle.art_gather.specs.declared.vouching.Vouching.TheVariants.{Above as above_read, Here as here_read};
 ghost use Rattle.art_find.specs.ReadSets.{above_of, node_of};
 ghost use Rattle.art_find.specs.Kept.{StaysRead};
@@ -13,9 +16,9 @@ ghost use Rattle.art_step.specs.declared.deeds.Deed.{Deed};
 ghost use Rattle.art_step.specs.declared.views.Sizes.{Sizes};
 ghost use Rattle.art_step.specs.declared.views.View.{View};
 
-use art_find::{Above, Position, ReadSet, Rereading};
+use art_find::{Above, Position, ReadSet, Rereading, look};
 use art_machine::{Action, Answer};
-use art_step::Steps;
+use art_step::{EpochSteps, Steps};
 
 /// How a vouching ended.
 #[derive(Clone, Copy)]
@@ -91,6 +94,40 @@ impl Vouching {
             Vouching::CheckHere => checked(answer, Vouching::Ended(Vouched::Unchanged)),
             Vouching::Ended(vouched) => Vouching::Ended(vouched),
         };
+    }
+
+    /// Makes its steps, one after another, as long as more than one turn is left.
+    pub fn run<S: EpochSteps>(
+        &mut self,
+        steps: &mut S,
+        position: &Position,
+        both: bool,
+        read_set: &mut ReadSet,
+        left: &mut u32,
+    )
+        requires some { 0 < left.old }
+        requires fits { (k : List ℕ) × (u : View) ×
+            Fits (S.sizes steps.old) k both position.now self.old read_set.old u (S.view steps.old) }
+        ensures only { S.only steps.old steps.new }
+        ensures turns { Spends (S.view steps.old) (S.view steps.new) left.old left.new }
+        ensures last { ((r : VouchedOf) × (ended_at self.new ≡ Some r)) ⊎ (left.new ≡ 1) }
+        ensures found { StayFound (S.view steps.old) (S.view steps.new) }
+        ensures stays { StaysRead (node_of read_set.old) (node_of read_set.new) }
+        ensures node { KnowsHere position.now read_set.old → node_of read_set.new ≡ node_of read_set.old }
+        ensures fits { (k : List ℕ) (u : View) → Fits (S.sizes steps.old) k both position.now self.old read_set.old u (S.view steps.old) →
+            Fits (S.sizes steps.old) k both position.now self.new read_set.new u (S.view steps.new) }
+    {
+        read_cells(steps, self, position, both, read_set, left);
+        while *left > 1 {
+            let Some(asked) = self.next(position) else {
+                return;
+            };
+            let Some(answer) = look(steps, asked) else {
+                unreachable!();
+            };
+            *left -= 1;
+            self.told(position, both, read_set, answer);
+        }
     }
 
     /// How it ended, if it has.
@@ -246,12 +283,9 @@ fn read_here<S: Steps>(
     requires some { 0 < left.old }
     requires fits { (k : List ℕ) × (u : View) × Fits (S.sizes steps.old) k both position.now vouching.old read_set.old u (S.view steps.old) }
     ensures only { S.only steps.old steps.new }
-    ensures some { 0 < left.new }
-    ensures less { left.new ≤ left.old }
+    ensures turns { Spends (S.view steps.old) (S.view steps.new) left.old left.new }
     ensures last { IsPastAbove vouching.old → IsPastReads vouching.new ⊎ (left.new ≡ 1) }
-    ensures made { (S.view steps.new).steps + left.new ≡ (S.view steps.old).steps + left.old }
     ensures found { (S.view steps.new).found ≡ (S.view steps.old).found }
-    ensures going { ended_at vouching.old ≡ None → ended_at vouching.new ≡ None }
     ensures stays { StaysRead (node_of read_set.old) (node_of read_set.new) }
     ensures node { KnowsHere position.now read_set.old → node_of read_set.new ≡ node_of read_set.old }
     ensures fits { (k : List ℕ) (u : View) → Fits (S.sizes steps.old) k both position.now vouching.old read_set.old u (S.view steps.old) →
@@ -277,13 +311,10 @@ fn read_above<S: Steps>(
     requires some { 0 < left.old }
     requires fits { (k : List ℕ) × (u : View) × Fits (S.sizes steps.old) k both position.now vouching.old read_set.old u (S.view steps.old) }
     ensures only { S.only steps.old steps.new }
-    ensures some { 0 < left.new }
-    ensures less { left.new ≤ left.old }
+    ensures turns { Spends (S.view steps.old) (S.view steps.new) left.old left.new }
     ensures last { IsPastAbove vouching.new ⊎ (left.new ≡ 1) }
-    ensures made { (S.view steps.new).steps + left.new ≡ (S.view steps.old).steps + left.old }
     ensures found { (S.view steps.new).found ≡ (S.view steps.old).found }
     ensures node { node_of read_set.new ≡ node_of read_set.old }
-    ensures going { ended_at vouching.old ≡ None → ended_at vouching.new ≡ None }
     ensures fits { (k : List ℕ) (u : View) → Fits (S.sizes steps.old) k both position.now vouching.old read_set.old u (S.view steps.old) →
         Fits (S.sizes steps.old) k both position.now vouching.new read_set.new u (S.view steps.new) }
 {
@@ -300,7 +331,7 @@ fn read_above<S: Steps>(
 
 /// Makes the reads of a vouching, one after another, as long as more than one turn is left: first of the cell above, where it is read
 /// too, then of the cell where the key stands.
-pub fn read_cells<S: Steps>(
+fn read_cells<S: Steps>(
     steps: &mut S,
     vouching: &mut Vouching,
     position: &Position,
@@ -311,12 +342,9 @@ pub fn read_cells<S: Steps>(
     requires some { 0 < left.old }
     requires fits { (k : List ℕ) × (u : View) × Fits (S.sizes steps.old) k both position.now vouching.old read_set.old u (S.view steps.old) }
     ensures only { S.only steps.old steps.new }
-    ensures some { 0 < left.new }
-    ensures less { left.new ≤ left.old }
+    ensures turns { Spends (S.view steps.old) (S.view steps.new) left.old left.new }
     ensures last { IsPastReads vouching.new ⊎ (left.new ≡ 1) }
-    ensures made { (S.view steps.new).steps + left.new ≡ (S.view steps.old).steps + left.old }
     ensures found { (S.view steps.new).found ≡ (S.view steps.old).found }
-    ensures going { ended_at vouching.old ≡ None → ended_at vouching.new ≡ None }
     ensures stays { StaysRead (node_of read_set.old) (node_of read_set.new) }
     ensures node { KnowsHere position.now read_set.old → node_of read_set.new ≡ node_of read_set.old }
     ensures fits { (k : List ℕ) (u : View) → Fits (S.sizes steps.old) k both position.now vouching.old read_set.old u (S.view steps.old) →

@@ -1,5 +1,5 @@
 -- What the making of a change knows between two of its steps.
-use Rattle.std.specs.Prelude.{◌≡◌, ◌≢◌, ℕ, Bool, ◌+◌, ◌-◌, ◌*◌, ◌<◌, ◌≤◌, ◌++◌, List, [], length, take, true, false, Option, Some, None, Result, Ok, Err, ⊤}
+use Rattle.std.specs.Prelude.{◌≡◌, ◌≢◌, ◌⊎◌, ℕ, Bool, ◌==◌, ◌+◌, ◌-◌, ◌*◌, ◌<◌, ◌≤◌, ◌++◌, List, [], length, take, true, false, Option, Some, None, Result, Ok, Err, ⊤}
 use Rattle.std.specs.Option.{option_map, option_and_then}
 use Rattle.std.specs.List.{cons_option}
 use Rattle.art_cell.specs.declared.cells.Cell.TheVariants as cell
@@ -23,6 +23,7 @@ use Rattle.art_step.specs.Steps.Give.{HandsOver}
 use Rattle.art_step.specs.Views.{IsOnce, Member, last_counter, links_in_limbo}
 use Rattle.art_step.specs.declared.faults.UpgradeFault.{UpgradeFault}
 use Rattle.art_step.specs.declared.faults.UpgradeFault.TheVariants as fault
+use Rattle.art_step.specs.declared.views.Found.{Found}
 use Rattle.art_step.specs.declared.views.Pin.{Pin}
 use Rattle.art_step.specs.declared.views.Sizes.{Sizes}
 use Rattle.art_step.specs.declared.views.View.{View}
@@ -146,6 +147,31 @@ pub record WritesAll (c : Change) (m m' : Apply) (n : ℕ) : Type 0 where
 -- so many words were written, and but for the steps and for what is held the pass is as it was
 abbrev pub OnlyWrites : View → View → ℕ → Type 0
 OnlyWrites v w n = w ≡ record v { steps = v.steps + n; held = w.held }
+
+-- ---- how it runs
+
+-- no cell was locked yet
+abbrev pub is_begun : Apply → Bool
+is_begun (Upgrading i) = i == 0
+is_begun m = false
+
+-- neither a step nor a failure is taken back, nor a word that was found, and the last check is the same
+pub record KeepsCheck (v w : View) : Type 0 where
+  pub steps : v.steps ≤ w.steps
+  pub failures : v.failures ≤ w.failures
+  pub found : (x : Found) → Member x v.found → Member x w.found
+  pub checked : w.checked ≡ v.checked
+
+-- from one stage to another: each step took a turn while there was one, there were few, and it is given up for the fault that it had
+pub record Runs (m m' : Apply) (v w : View) (left left' : ℕ) : Type 0 where
+  pub keeps : KeepsCheck v w
+  pub turns : left' ≡ left - (w.steps - v.steps)
+  pub few : w.steps + most_steps m ≤ v.steps + most_steps m'
+  pub stays : (e : UpgradeFault) → fault_of m ≡ Some e → fault_of m' ≡ Some e
+
+-- it has ended, or no cell is locked and one turn is left
+abbrev pub HasRun : Apply → ℕ → Type 0
+HasRun m left = ((r : Result ⊤ UpgradeFault) × (ended_at m ≡ Some r)) ⊎ ((is_begun m ≡ true) × (left ≡ 1))
 
 -- ---- what it knows, of a pass that had the view u when the change was planned
 

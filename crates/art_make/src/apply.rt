@@ -16,9 +16,9 @@ ghost use Rattle.art_step.specs.declared.views.Stamp.{Stamp as StampOf};
 ghost use Rattle.art_step.specs.declared.views.View.{View};
 
 use art_cell::Cell;
-use art_machine::{Action, Answer};
+use art_machine::{Action, Answer, perform};
 use art_plan::Change;
-use art_step::UpgradeFault;
+use art_step::{EpochSteps, UpgradeFault};
 
 /// Where the making of a change stands between two of its steps.
 #[derive(Clone, Copy)]
@@ -55,7 +55,8 @@ impl Apply {
     ghost use Rattle.art_machine.specs.Acting.{Answers, IsAllowed};
     ghost use Rattle.art_plan.specs.Whole.{IsWhole};
     ghost use Rattle.std.specs.Prelude.{Err};
-    ghost use Rattle.art_make.specs.Apply.{Fits, IsOver, asks, ended_at, brings, fault_of, most_steps};
+    ghost use Rattle.art_make.specs.Apply.{Fits, HasRun, IsOver, Runs, asks, ended_at, brings, fault_of, is_begun, most_steps};
+    ghost use Rattle.art_step.specs.Deeds.{IsAdmitted};
     ghost use Rattle.art_machine.specs.declared.actions.Answer.TheVariants.{Upgraded as upgraded};
     ghost use Rattle.art_machine.specs.declared.actions.Action.{Action as ActionOf};
     ghost use Rattle.art_make.specs.declared.apply.Apply.TheVariants.{Upgrading as upgrading};
@@ -114,6 +115,46 @@ impl Apply {
             } => given_up(locked, count + 1, fault),
             Apply::Ended(_) => unreachable!(),
         };
+    }
+
+    /// Makes all steps that are left; while no cell is locked, as long as more than one turn is left.
+    pub fn run<S: EpochSteps>(&mut self, steps: &mut S, change: &Change, left: &mut u32)
+        requires some { 0 < left.old }
+        requires admitted { IsAdmitted (S.admits steps.old) change.now.effects.deed }
+        requires fits { (u : View) × Fits (S.sizes steps.old) change.now self.old u (S.view steps.old) }
+        ensures only { S.only steps.old steps.new }
+        ensures runs { Runs self.old self.new (S.view steps.old) (S.view steps.new) left.old left.new }
+        ensures last { HasRun self.new left.new }
+        ensures fits { (u : View) → Fits (S.sizes steps.old) change.now self.old u (S.view steps.old) →
+            Fits (S.sizes steps.old) change.now self.new u (S.view steps.new) }
+    {
+        loop {
+            if self.is_writing() {
+                let written = self.write_on(steps, change);
+                *left = left.saturating_sub(written);
+                continue;
+            }
+            let Some(asked) = self.next(change) else {
+                return;
+            };
+            if self.is_begun() && *left <= 1 {
+                return;
+            }
+            let answer = perform(steps, asked, Some(&change.effects));
+            *left = left.saturating_sub(answer.steps());
+            self.told(change, answer);
+        }
+    }
+
+    /// Whether no cell was locked yet.
+    #[inline(always)]
+    pub fn is_begun(&self) -> bool
+        ensures { result ≡ is_begun self.now }
+    {
+        match *self {
+            Apply::Upgrading(index) => index == 0,
+            _ => false,
+        }
     }
 
     /// The next step, by the stage alone.

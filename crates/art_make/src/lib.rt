@@ -34,8 +34,7 @@
 //!
 //! `Apply` is the machine that makes them: a value of scalars with `next` and `told`, as that of `art_find`. The change stands
 //! beside it and stays as it is. `perform` of `art_machine` makes the step that it asks for.
-//! Where words are next (`is_writing`), `write_on` writes all that are left. The words of each new node, of which there may be
-//! 265, are written in a loop of their own.
+//! `run` makes all steps that are left. The words of each new node, of which there may be 265, are written in a loop of their own.
 //!
 //! # Where it fails
 //!

@@ -7,7 +7,8 @@ use Rattle.std.specs.Option.{option_and_then, option_map}
 use Rattle.std.specs.Prelude.{◌==◌, ◌++◌}
 use Rattle.art_call.proofs.ArtAttempt.Free.{free_so}
 use Rattle.art_call.proofs.ArtAttempt.Finds as insert_finds
-use Rattle.art_call.proofs.ArtAttempt.Given.{IsMade, IsSupply, ask_looks, lower_asks_look, apply_asks_made, reads_look, supply_asks_supply, vouch_asks_look}
+use Rattle.art_call.proofs.ArtAttempt.Given.{IsSupply, ask_looks, lower_asks_look, reads_look, supply_asks_supply, vouch_asks_look}
+use Rattle.art_make.proofs.Keeping.{IsMade, asks_made}
 use Rattle.art_call.proofs.ArtAttempt.Left.{tries_some}
 use Rattle.art_call.proofs.ArtErase.Finds as erase_finds
 use Rattle.art_call.specs.ArtAttempt.Inserting as inserts
@@ -215,7 +216,7 @@ module _ (z : Sizes) (b v : View) (r : Room) (a : Action) (left : ℕ) where
 
   look_change : (early : View) (n : Apply) → StillTries b early → apply.Fits z r.change n early v → (is_begun n ≡ true → 0 < left) → apply.asks r.change n ≡ Some a → NeedsCurrent a → IsEarlyBy (apply_left left n)
   look_change early n base fits some is look =
-      let e = upgrade_early z r.change early v a left n fits some is (look_upgrade a (apply_asks_made r.change n a is) look) in
+      let e = upgrade_early z r.change early v a left n fits some is (look_upgrade a (asks_made r.change n a is) look) in
       (e.0 ∙ ap (λ (o : Rest). o.own) base.rest, e.1)
 
   release_change : (early : View) (n : Apply) → StillTries b early → apply.Fits z r.change n early v → apply.asks r.change n ≡ Some a → IsRelease a → v.own ≡ b.own → v.failures ≤ b.failures → 575 < apply_left left n → ⊥

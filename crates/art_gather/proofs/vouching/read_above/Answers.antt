@@ -1,6 +1,7 @@
 -- The reads are those of the rereading.
 use Rattle.std.proofs.Common.{◌≡◌, ◌+◌, ◌-◌, ◌∙◌, Some, sym, subst, ap, arith}
 use Rattle.std.proofs.lemmas.Option.{same_Some}
+use Rattle.art_gather.proofs.Spending.{spends_none}
 use Rattle.art_gather.proofs.Vouches.{above_after, is_above, left_after}
 use Rattle.art_gather.specs.Vouching.{Fits}
 use Rattle.art_gather.specs.declared.vouching.Vouching.{Vouching}
@@ -47,3 +48,14 @@ returns-clause-fits g c k u fits =
     (above_after z k t read_set read_set' u v w made done.only f.stage.0 a c.in-Some.is c.read_on_above.ensures.node done.fits.kept)
     (left_after u v w made (266 - r.place + 267) (266 - r'.place + 267) 532 done.only (omega (arith, further, few)) (record { failures = f.failures; steps = f.steps }))
     (over.is ∙ ap (λ (b : Above). Some b) one) done.fits
+
+pub returns-in_default-clause-turns : goal.returns-in_default-clause-turns
+returns-in_default-clause-turns g c = spends_none (g.S.Steps.view c.args.steps.now) c.args.left.now c.requires.some
+
+pub returns-clause-turns : goal.returns-clause-turns
+returns-clause-turns g c =
+    let e = c.read_on_above.ensures in
+    let some = e.some in
+    let less = e.less in
+    let made = e.read.only.steps in
+    record { some = some; less = less; made = omega (arith, made, less) }

@@ -1,5 +1,6 @@
 -- One after the other.
 use Rattle.std.proofs.Common.{◌∙◌, List, Option, ℕ, sym, subst}
+use Rattle.art_gather.proofs.Spending.{spends_on}
 use Rattle.art_gather.specs.Vouching.{Fits}
 use Rattle.art_find.specs.ReadSets.{node_of}
 use Rattle.art_find.specs.Kept.{StaysRead}
@@ -37,3 +38,8 @@ pub returns-clause-node : goal.returns-clause-node
 returns-clause-node g c known =
     let same = c.read_above.ensures.node in
     c.read_here.ensures.node (subst (λ (reads : List (Option ℕ)). AreKnown reads 1 (size_of c.args.position.now.stamp.cell)) (sym same) known) ∙ same
+
+pub returns-clause-turns : goal.returns-clause-turns
+returns-clause-turns g c =
+    spends_on (g.S.Steps.view c.args.steps.now) (g.S.Steps.view c.read_above.new.steps) (g.S.Steps.view c.read_here.new.steps) c.args.left.now c.read_above.new.left c.read_here.new.left
+    c.read_above.ensures.turns c.read_here.ensures.turns

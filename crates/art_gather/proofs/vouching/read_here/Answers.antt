@@ -1,5 +1,6 @@
 -- The reads are those of the rereading.
 use Rattle.std.proofs.Common.{◌+◌, ◌-◌, List, Option, ℕ, sym, subst, arith}
+use Rattle.art_gather.proofs.Spending.{spends_none}
 use Rattle.art_gather.proofs.Vouches.{here_after, left_after}
 use Rattle.art_gather.specs.Vouching.{Fits}
 use Rattle.art_gather.specs.declared.vouching.Vouching.{Vouching}
@@ -38,3 +39,14 @@ returns-clause-fits g c k u fits =
     (here_after z k t read_set read_set' u v w made done.only f.stage.0 c.read_on_node.ensures.above done.fits.kept)
     (left_after u v w made (266 - r.place + 2) (266 - r'.place + 2) 532 done.only (omega (arith, further, few)) (record { failures = f.failures; steps = f.steps }))
     (λ a at. subst (λ (reads : List (Option ℕ)). AreKnown reads 1 (size_of a.stamp.cell)) (sym c.read_on_node.ensures.above) (f.stage.1 a at)) done.fits
+
+pub returns-in_default-clause-turns : goal.returns-in_default-clause-turns
+returns-in_default-clause-turns g c = spends_none (g.S.Steps.view c.args.steps.now) c.args.left.now c.requires.some
+
+pub returns-clause-turns : goal.returns-clause-turns
+returns-clause-turns g c =
+    let e = c.read_on_node.ensures in
+    let some = e.some in
+    let less = e.less in
+    let made = e.read.only.steps in
+    record { some = some; less = less; made = omega (arith, made, less) }

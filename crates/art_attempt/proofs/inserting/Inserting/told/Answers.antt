@@ -1,6 +1,7 @@
 use Rattle.std.proofs.Common.{◌∙◌, ◌-◌, ◌<◌, ap, sym, subst}
 use Rattle.art_attempt.proofs.Finds.{finding_allowed}
-use Rattle.art_attempt.proofs.Given.{ask_looks, look_once, look_row, made_row, apply_asks_made, plain_row, supply_asks_supply, supply_once, supply_plain, vouch_asks_look}
+use Rattle.art_attempt.proofs.Given.{ask_looks, look_once, look_row, made_row, plain_row, supply_asks_supply, supply_once, supply_plain, vouch_asks_look}
+use Rattle.art_make.proofs.Keeping.{asks_made}
 use Rattle.art_attempt.proofs.Left.{free_less}
 use Rattle.art_attempt.proofs.inserting.Inserting.told.Goals as goal
 use Rattle.art_attempt.specs.Asking.{given}
@@ -42,7 +43,7 @@ returns-in-Apply-clause-fits c z u v w asked fits is row =
     let d = deed_at m r in
     let stage = subst (λ (s : StageOf). StageFits z u s m r v) c.in-Apply.is fits.stage in
     let at = sym (ap (λ (s : StageOf). asks_at s m r) c.in-Apply.is) ∙ is in
-    c.make_told.ensures.fits z u v w asked fits.room stage.0 at (made_row z d r.change asked c.args.answer v w (apply_asks_made r.change m.apply asked at) row)
+    c.make_told.ensures.fits z u v w asked fits.room stage.0 at (made_row z d r.change asked c.args.answer v w (asks_made r.change m.apply asked at) row)
 
 pub returns-in-Finding-clause-left : goal.returns-in-Finding-clause-left
 returns-in-Finding-clause-left c left begun =

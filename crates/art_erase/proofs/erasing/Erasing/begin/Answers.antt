@@ -1,6 +1,6 @@
 use Rattle.std.proofs.Common.{ap}
 use Rattle.art_attempt.proofs.Tries.{later_first}
-use Rattle.art_attempt.specs.Inserting.{is_begun}
+use Rattle.art_make.specs.Apply.{is_begun}
 use Rattle.art_plan.proofs.Renewing.{plain_whole}
 use Rattle.art_erase.proofs.erasing.Erasing.begin.Goals as goal
 

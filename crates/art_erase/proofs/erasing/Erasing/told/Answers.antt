@@ -1,5 +1,6 @@
 use Rattle.std.proofs.Common.{◌∙◌, ◌-◌, ◌<◌, ap, sym, subst}
-use Rattle.art_attempt.proofs.Given.{ask_looks, look_once, look_row, lower_asks_look, made_row, apply_asks_made, plain_row, reads_look, supply_asks_supply, supply_once, supply_plain, vouch_asks_look}
+use Rattle.art_attempt.proofs.Given.{ask_looks, look_once, look_row, lower_asks_look, made_row, plain_row, reads_look, supply_asks_supply, supply_once, supply_plain, vouch_asks_look}
+use Rattle.art_make.proofs.Keeping.{asks_made}
 use Rattle.art_attempt.specs.Asking.{given}
 use Rattle.art_erase.proofs.Finds.{finding_allowed}
 use Rattle.art_erase.proofs.Left.{free_less}
@@ -15,7 +16,7 @@ make_told-requires-clause-told c =
     let q = c.requires in
     let stage = subst (λ (s : StageOf). StageFits q.0 q.1 s m r q.2) c.in-Apply.is q.5.stage in
     let at = sym (ap (λ (s : StageOf). asks_at s m r) c.in-Apply.is) ∙ q.6 in
-    (q.0, q.1, q.2, q.3, q.4, q.5.room, stage.0, at, made_row q.0 (absent r.gone) r.change q.4 c.args.answer q.2 q.3 (apply_asks_made r.change m.apply q.4 at) q.7)
+    (q.0, q.1, q.2, q.3, q.4, q.5.room, stage.0, at, made_row q.0 (absent r.gone) r.change q.4 c.args.answer q.2 q.3 (asks_made r.change m.apply q.4 at) q.7)
 
 pub returns-in-Finding-clause-fits : goal.returns-in-Finding-clause-fits
 returns-in-Finding-clause-fits c z u v w asked fits is row =
@@ -69,7 +70,7 @@ returns-in-Apply-clause-fits c z u v w asked fits is row =
     let d = absent r.gone in
     let stage = subst (λ (s : StageOf). StageFits z u s m r v) c.in-Apply.is fits.stage in
     let at = sym (ap (λ (s : StageOf). asks_at s m r) c.in-Apply.is) ∙ is in
-    c.make_told.ensures.fits z u v w asked fits.room stage.0 at (made_row z d r.change asked c.args.answer v w (apply_asks_made r.change m.apply asked at) row)
+    c.make_told.ensures.fits z u v w asked fits.room stage.0 at (made_row z d r.change asked c.args.answer v w (asks_made r.change m.apply asked at) row)
 
 pub returns-in-Finding-clause-left : goal.returns-in-Finding-clause-left
 returns-in-Finding-clause-left c left begun =

@@ -1,69 +1,54 @@
--- The steps are those of the vouching.
-use Rattle.std.proofs.Common.{◌∙◌, sym, subst, arith}
-use Rattle.std.specs.Prelude.{⊤}
-use Rattle.art_erase.proofs.Stages.{has_vouched, kept_on}
-use Rattle.art_erase.specs.Erasing.{Fits, absent, goes}
-use Rattle.art_attempt.proofs.Given.{vouch_asks_look}
-use Rattle.art_find.specs.Asking.{MayLook}
-use Rattle.art_machine.proofs.Counting.{look_counts}
-use Rattle.art_machine.specs.Acting.{Answers, telling}
-use Rattle.art_step.specs.declared.views.Sizes.{Sizes}
-use Rattle.art_step.specs.declared.views.View.{View}
+-- The validation runs, and what it came to is looked at.
+use Rattle.std.proofs.Common.{Bool, sym, subst, arith}
+use Rattle.art_attempt.specs.ArtGather.Vouching.{Fits as VouchFits}
+use Rattle.art_erase.proofs.Stages.{has_vouched}
+use Rattle.art_erase.proofs.Vouched.{vouched_on}
 use Rattle.art_erase.proofs.erasing.Erasing.vouch_all.Goals as goal
 
-pub look-requires : goal.look-requires
-look-requires g c =
+pub run-requires-clause-fits : goal.run-requires-clause-fits
+run-requires-clause-fits g c =
     let z = g.S.Steps.sizes c.args.steps.now in
-    let v = g.S.Steps.view c.loop-left.steps in
-    let i = c.loop-left.invariant in
-    let m = c.loop-left.self in
-    let r = c.loop-left.room in
-    let h = has_vouched z i.here.0 m r v c.in-Vouching.is i.here.1 in
-    record {
-      allowed = subst (λ (y : Sizes). MayLook y (λ s. ⊤) v c.in-Some.asked) (sym i.sizes)
-          (c.in-Some.ensures.allowed z r.gone.key.items (goes m.way) r.read_set h.early v h.fits);
-    }
+    let v = g.S.Steps.view c.args.steps.now in
+    let m = c.args.self.now in
+    let r = c.args.room.now in
+    let k = r.gone.key.items in
+    let q = c.requires.fits in
+    let h = has_vouched z q.0 m r v c.requires.stage q.1 in
+    (k, h.early, subst (λ (b : Bool). VouchFits z k b m.position m.vouching r.read_set h.early v) (sym c.goes-both.ensures) h.fits)
 
-pub vouch_told-requires-clause-told : goal.vouch_told-requires-clause-told
-vouch_told-requires-clause-told g c =
+pub vouch_on-requires-clause-vouched : goal.vouch_on-requires-clause-vouched
+vouch_on-requires-clause-vouched g c =
     let z = g.S.Steps.sizes c.args.steps.now in
-    let v = g.S.Steps.view c.loop-left.steps in
-    let w = g.S.Steps.view c.look.new.steps in
-    let i = c.loop-left.invariant in
-    let m = c.loop-left.self in
-    let r = c.loop-left.room in
-    let d = absent r.gone in
-    let row = subst (λ (y : Sizes). Answers y (telling d) c.in-Some.asked c.in-Some-look.answer v w) i.sizes (c.in-Some-look.ensures.row d) in
-    (z, i.here.0, v, w, c.in-Some.asked, i.here.1.room, has_vouched z i.here.0 m r v c.in-Vouching.is i.here.1, sym c.next.ensures.asks ∙ c.in-Some.is, row)
+    let v = g.S.Steps.view c.args.steps.now in
+    let w = g.S.Steps.view c.run.new.steps in
+    let m = c.args.self.now in
+    let r = c.args.room.now in
+    let k = r.gone.key.items in
+    let q = c.requires.fits in
+    let h = has_vouched z q.0 m r v c.requires.stage q.1 in
+    let after = c.run.ensures.fits k h.early (subst (λ (b : Bool). VouchFits z k b m.position m.vouching r.read_set h.early v) (sym c.goes-both.ensures) h.fits) in
+    let then = subst (λ (b : Bool). VouchFits z k b m.position c.run.new.self c.run.new.read_set h.early w) c.goes-both.ensures after in
+    let made = c.run.ensures.turns.made in
+    let less = c.run.ensures.turns.less in (
+      z,
+      q.0,
+      w,
+      record { sizes = q.1.room.sizes; key = q.1.room.key },
+      vouched_on z q.0 m r v h w c.run.new.self c.run.new.read_set (omega (arith, made, less)) c.run.ensures.found c.run.ensures.stays c.run.ensures.node then,
+    )
 
-pub loop-left-preserved : goal.loop-left-preserved
-loop-left-preserved g c =
-    let s = c.args.steps.now in
-    let t = c.loop-left.steps in
-    let z = g.S.Steps.sizes s in
-    let v = g.S.Steps.view t in
-    let w = g.S.Steps.view c.look.new.steps in
-    let i = c.loop-left.invariant in
-    let m = c.loop-left.self in
-    let r = c.loop-left.room in
-    let d = absent r.gone in
-    let a = c.in-Some.asked in
-    let row : Answers z (telling d) a c.in-Some-look.answer v w = subst (λ (y : Sizes). Answers y (telling d) a c.in-Some-look.answer v w) i.sizes (c.in-Some-look.ensures.row d) in
-    let is = sym c.next.ensures.asks ∙ c.in-Some.is in
-    let one = (look_counts z d a c.in-Some-look.answer v w (vouch_asks_look m.position m.vouching a is) row).steps in
-    let on : (u : View) → Fits z u m r v → Fits z u c.vouch_told.new.self c.vouch_told.new.room w = λ u fits.
-    c.vouch_told.ensures.fits z u v w a fits.room (has_vouched z u m r v c.in-Vouching.is fits) is row in
-    let made = i.made in
-    let less = i.less in
-    let more = c.loop-left-test.true in
-    record {
-      only = g.met.S.Steps.only_then s t c.look.new.steps i.only c.look.ensures.only;
-      sizes = g.met.S.Steps.only_sizes t c.look.new.steps c.look.ensures.only ∙ i.sizes;
-      kept = kept_on c.args.room.now r c.vouch_told.new.room i.kept c.vouch_told.ensures.kept;
-      free = c.vouch_told.ensures.free;
-      some = omega (arith, more);
-      less = omega (arith, less);
-      made = omega (arith, made, one, more);
-      here = (i.here.0, on i.here.0 i.here.1);
-      fits = λ u fits. on u (i.fits u fits);
-    }
+pub returns-clause-fits : goal.returns-clause-fits
+returns-clause-fits g c u fits =
+    let z = g.S.Steps.sizes c.args.steps.now in
+    let v = g.S.Steps.view c.args.steps.now in
+    let w = g.S.Steps.view c.run.new.steps in
+    let m = c.args.self.now in
+    let r = c.args.room.now in
+    let k = r.gone.key.items in
+    let h = has_vouched z u m r v c.requires.stage fits in
+    let after = c.run.ensures.fits k h.early (subst (λ (b : Bool). VouchFits z k b m.position m.vouching r.read_set h.early v) (sym c.goes-both.ensures) h.fits) in
+    let then = subst (λ (b : Bool). VouchFits z k b m.position c.run.new.self c.run.new.read_set h.early w) c.goes-both.ensures after in
+    let made = c.run.ensures.turns.made in
+    let less = c.run.ensures.turns.less in
+    c.vouch_on.ensures.fits z u w (record { sizes = fits.room.sizes; key = fits.room.key })
+    (vouched_on z u m r v h w c.run.new.self c.run.new.read_set (omega (arith, made, less)) c.run.ensures.found c.run.ensures.stays c.run.ensures.node then)

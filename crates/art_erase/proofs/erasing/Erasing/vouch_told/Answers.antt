@@ -1,120 +1,43 @@
-use Rattle.std.proofs.Common.{◌∙◌, Bool, ap, sym, subst, Some}
+use Rattle.std.proofs.Common.{Bool, sym, subst}
 use Rattle.art_attempt.proofs.Enters.{changed_by}
 use Rattle.art_attempt.proofs.Given.{vouch_asks_look}
 use Rattle.art_attempt.proofs.Steps.{cell_later}
-use Rattle.art_attempt.proofs.Tries.{later_then}
-use Rattle.art_attempt.specs.declared.rooms.Room.{Room}
-use Rattle.art_erase.proofs.Chosen.{chosen_later, chosen_stays}
-use Rattle.art_erase.proofs.Founds.{look_keeps}
-use Rattle.art_erase.proofs.Vouched.{vouched_changed}
-use Rattle.art_erase.proofs.erasing.Erasing.vouch_told.Goals as goal
-use Rattle.art_erase.specs.Erasing.{HasVouched, StageFits, absent}
-use Rattle.art_erase.specs.declared.erasing.Erasing.{Erasing}
-use Rattle.art_erase.specs.declared.erasing.Stage.{Stage as StageOf}
 use Rattle.art_attempt.specs.ArtGather.Vouching.{Fits as VouchFits}
-use Rattle.art_attempt.specs.ArtGather.declared.vouching.Vouched.{Vouched}
+use Rattle.art_erase.proofs.Founds.{look_keeps}
+use Rattle.art_erase.proofs.Vouched.{vouched_on}
+use Rattle.art_erase.proofs.erasing.Erasing.vouch_told.Goals as goal
+use Rattle.art_erase.specs.Erasing.{absent}
 
-pub plan-requires : goal.plan-requires
-plan-requires c =
+pub vouch_on-requires-clause-vouched : goal.vouch_on-requires-clause-vouched
+vouch_on-requires-clause-vouched c =
     let q = c.requires.told in
     let h = q.6 in
     let m = c.args.self.now in
     let r = c.args.room.now in
     let k = r.gone.key.items in
     let d = absent r.gone in
-    let one = cell_later q.0 d q.4 c.args.answer q.2 q.3 (vouch_asks_look m.position m.vouching q.4 q.7) q.8 in
-    let keeps = look_keeps q.0 d q.4 c.args.answer q.2 q.3 (vouch_asks_look m.position m.vouching q.4 q.7) q.8 in
-    let next : Erasing = record m { vouching = c.told.new.self } in
-    let then : Room = record r { read_set = c.told.new.read_set } in
+    let look = vouch_asks_look m.position m.vouching q.4 q.7 in
+    let one = cell_later q.0 d q.4 c.args.answer q.2 q.3 look q.8 in
+    let keeps = look_keeps q.0 d q.4 c.args.answer q.2 q.3 look q.8 in
     let fits = c.told.ensures.fits q.0 k d h.early q.2 q.3 q.4 (subst (λ (b : Bool). VouchFits q.0 k b m.position m.vouching r.read_set h.early q.2) (sym c.goes.ensures) h.fits) q.7 q.8 in
-    let vouched : HasVouched q.0 q.1 next then q.3 = record {
-      early = h.early;
-      base = h.base;
-      later = later_then h.early q.2 q.3 h.later one;
-      spent = h.spent;
-      has = h.has;
-      found = h.found;
-      chosen = chosen_stays m.position r.read_set c.told.new.read_set q.0 m.way r.gone r.stock q.1 q.3 c.told.ensures.stays c.told.ensures.node (chosen_later q.2 q.3 keeps q.0 m.way m.position r.read_set r.gone r.stock q.1 h.chosen);
-      fits = subst (λ (b : Bool). VouchFits q.0 k b m.position c.told.new.self c.told.new.read_set h.early q.3) c.goes.ensures fits;
-    } in
-    (q.0, q.1, q.3, record { sizes = q.5.sizes; key = q.5.key }, vouched, sym c.ended.ensures.at ∙ (c.in-Some-Unchanged.is ∙ ap (λ (e : Vouched). Some e) c.in-Some-Unchanged.field-0-is))
+    let then = subst (λ (b : Bool). VouchFits q.0 k b m.position c.told.new.self c.told.new.read_set h.early q.3) c.goes.ensures fits in
+    (q.0, q.1, q.3, record { sizes = q.5.sizes; key = q.5.key }, vouched_on q.0 q.1 m r q.2 h q.3 c.told.new.self c.told.new.read_set one.steps keeps c.told.ensures.stays c.told.ensures.node then)
 
-pub returns-in-None-clause-fits : goal.returns-in-None-clause-fits
-returns-in-None-clause-fits c z u v w asked room h is row =
+pub returns-clause-fits : goal.returns-clause-fits
+returns-clause-fits c z u v w asked room h is row =
     let m = c.args.self.now in
     let r = c.args.room.now in
     let k = r.gone.key.items in
     let d = absent r.gone in
-    let one = cell_later z d asked c.args.answer v w (vouch_asks_look m.position m.vouching asked is) row in
-    let keeps = look_keeps z d asked c.args.answer v w (vouch_asks_look m.position m.vouching asked is) row in
-    let next : Erasing = record m { vouching = c.told.new.self } in
-    let then : Room = record r { read_set = c.told.new.read_set } in
+    let look = vouch_asks_look m.position m.vouching asked is in
+    let one = cell_later z d asked c.args.answer v w look row in
+    let keeps = look_keeps z d asked c.args.answer v w look row in
     let fits = c.told.ensures.fits z k d h.early v w asked (subst (λ (b : Bool). VouchFits z k b m.position m.vouching r.read_set h.early v) (sym c.goes.ensures) h.fits) is row in
-    let vouched : HasVouched z u next then w = record {
-      early = h.early;
-      base = h.base;
-      later = later_then h.early v w h.later one;
-      spent = h.spent;
-      has = h.has;
-      found = h.found;
-      chosen = chosen_stays m.position r.read_set c.told.new.read_set z m.way r.gone r.stock u w c.told.ensures.stays c.told.ensures.node (chosen_later v w keeps z m.way m.position r.read_set r.gone r.stock u h.chosen);
-      fits = subst (λ (b : Bool). VouchFits z k b m.position c.told.new.self c.told.new.read_set h.early w) c.goes.ensures fits;
-    } in
-    record {
-      room = record { sizes = room.sizes; key = room.key };
-      stage = subst (λ (e : StageOf). StageFits z u e next then w) (sym c.requires.stage) (vouched, sym c.ended.ensures.at ∙ c.in-None.is);
-    }
+    let then = subst (λ (b : Bool). VouchFits z k b m.position c.told.new.self c.told.new.read_set h.early w) c.goes.ensures fits in
+    c.vouch_on.ensures.fits z u w (record { sizes = room.sizes; key = room.key }) (vouched_on z u m r v h w c.told.new.self c.told.new.read_set one.steps keeps c.told.ensures.stays c.told.ensures.node then)
 
-pub returns-in-Some-Changed-clause-fits : goal.returns-in-Some-Changed-clause-fits
-returns-in-Some-Changed-clause-fits c z u v w asked room h is row =
-    let m = c.args.self.now in
-    let r = c.args.room.now in
-    let k = r.gone.key.items in
-    let d = absent r.gone in
-    let one = cell_later z d asked c.args.answer v w (vouch_asks_look m.position m.vouching asked is) row in
-    let keeps = look_keeps z d asked c.args.answer v w (vouch_asks_look m.position m.vouching asked is) row in
-    let next : Erasing = record m { vouching = c.told.new.self } in
-    let then : Room = record r { read_set = c.told.new.read_set } in
-    let fits = c.told.ensures.fits z k d h.early v w asked (subst (λ (b : Bool). VouchFits z k b m.position m.vouching r.read_set h.early v) (sym c.goes.ensures) h.fits) is row in
-    let vouched : HasVouched z u next then w = record {
-      early = h.early;
-      base = h.base;
-      later = later_then h.early v w h.later one;
-      spent = h.spent;
-      has = h.has;
-      found = h.found;
-      chosen = chosen_stays m.position r.read_set c.told.new.read_set z m.way r.gone r.stock u w c.told.ensures.stays c.told.ensures.node (chosen_later v w keeps z m.way m.position r.read_set r.gone r.stock u h.chosen);
-      fits = subst (λ (b : Bool). VouchFits z k b m.position c.told.new.self c.told.new.read_set h.early w) c.goes.ensures fits;
-    } in
-    let so = vouched_changed z u next then w vouched (sym c.ended.ensures.at ∙ (c.in-Some-Changed.is ∙ ap (λ (e : Vouched). Some e) c.in-Some-Changed.field-0-is)) in
-    record { room = record { sizes = room.sizes; key = room.key }; stage = (record { still = so.0.still; spent = so.0.spent; has = so.0.has }, so.1) }
-
-pub returns-in-Some-Unchanged-clause-fits : goal.returns-in-Some-Unchanged-clause-fits
-returns-in-Some-Unchanged-clause-fits c z u v w asked room h is row =
-    let m = c.args.self.now in
-    let r = c.args.room.now in
-    let k = r.gone.key.items in
-    let d = absent r.gone in
-    let one = cell_later z d asked c.args.answer v w (vouch_asks_look m.position m.vouching asked is) row in
-    let keeps = look_keeps z d asked c.args.answer v w (vouch_asks_look m.position m.vouching asked is) row in
-    let next : Erasing = record m { vouching = c.told.new.self } in
-    let then : Room = record r { read_set = c.told.new.read_set } in
-    let fits = c.told.ensures.fits z k d h.early v w asked (subst (λ (b : Bool). VouchFits z k b m.position m.vouching r.read_set h.early v) (sym c.goes.ensures) h.fits) is row in
-    let vouched : HasVouched z u next then w = record {
-      early = h.early;
-      base = h.base;
-      later = later_then h.early v w h.later one;
-      spent = h.spent;
-      has = h.has;
-      found = h.found;
-      chosen = chosen_stays m.position r.read_set c.told.new.read_set z m.way r.gone r.stock u w c.told.ensures.stays c.told.ensures.node (chosen_later v w keeps z m.way m.position r.read_set r.gone r.stock u h.chosen);
-      fits = subst (λ (b : Bool). VouchFits z k b m.position c.told.new.self c.told.new.read_set h.early w) c.goes.ensures fits;
-    } in
-    c.plan.ensures.fits z u w (record { sizes = room.sizes; key = room.key }) vouched
-    (sym c.ended.ensures.at ∙ (c.in-Some-Unchanged.is ∙ ap (λ (e : Vouched). Some e) c.in-Some-Unchanged.field-0-is))
-
-pub returns-in-Some-Changed-clause-anew : goal.returns-in-Some-Changed-clause-anew
-returns-in-Some-Changed-clause-anew c anew =
+pub returns-clause-anew : goal.returns-clause-anew
+returns-clause-anew c anew =
     let q = c.requires.told in
     let m = c.args.self.now in
     let r = c.args.room.now in
@@ -123,5 +46,4 @@ returns-in-Some-Changed-clause-anew c anew =
     let d = absent r.gone in
     let before = subst (λ (b : Bool). VouchFits q.0 k b m.position m.vouching r.read_set h.early q.2) (sym c.goes.ensures) h.fits in
     let after = c.told.ensures.fits q.0 k d h.early q.2 q.3 q.4 before q.7 q.8 in
-    changed_by q.0 k c.goes.result m.position m.vouching c.told.new.self r.read_set c.told.new.read_set d q.4 c.args.answer h.early q.2 q.3 before after q.7 q.8
-    (sym c.ended.ensures.at ∙ (c.in-Some-Changed.is ∙ ap (λ (e : Vouched). Some e) c.in-Some-Changed.field-0-is))
+    changed_by q.0 k c.goes.result m.position m.vouching c.told.new.self r.read_set c.told.new.read_set d q.4 c.args.answer h.early q.2 q.3 before after q.7 q.8 (c.vouch_on.ensures.anew anew)

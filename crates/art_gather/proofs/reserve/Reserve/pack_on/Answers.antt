@@ -1,6 +1,7 @@
 -- The steps are those of the machine.
 use Rattle.std.proofs.Common.{◌≡◌, ◌≢◌, ◌∙◌, None, Some, sym, subst, arith}
 use Rattle.std.proofs.lemmas.Bool.{eqb-false}
+use Rattle.art_gather.proofs.Spending.{spends_none, spends_one}
 use Rattle.art_gather.proofs.Supplies.{asks_next, asks_word, next_row, one_written, packed_next}
 use Rattle.art_gather.specs.Reserve.{Fits}
 use Rattle.art_gather.specs.declared.reserve.Reserve.TheVariants.{LeafWriter as packed}
@@ -35,15 +36,13 @@ loop-left-preserved g c =
     let packs = c.told.ensures.fits z q.leaf k value q.early v w _ answer q.packs (asks_next z demand k value s u p v w f) (next_row z demand k value s u p v w f asked answer is row) in
     packed_next z demand k value s u p v w f asked answer is row p' packs other in
     let one = one_written z i.here.0 k value s i.here.1 p v w i.here.2 asked answer is row in
-    let made = i.made in
-    let less = i.less in
-    let more = c.loop-left-test.true in
     record {
       only = g.met.S.Steps.only_then c.args.steps.now c.loop-left.steps c.perform.new.steps i.only c.perform.ensures.only;
       sizes = g.met.S.Steps.only_sizes c.loop-left.steps c.perform.new.steps c.perform.ensures.only ∙ i.sizes;
-      some = omega (arith, more);
-      less = omega (arith, less);
-      made = omega (arith, made, one, more);
+      turns = spends_one (g.S.Steps.view c.args.steps.now) v w c.args.left.now c.loop-left.left i.turns one c.loop-left-test.true;
       here = (i.here.0, i.here.1, on i.here.0 i.here.1 i.here.2);
       fits = λ demand u f. on demand u (i.fits demand u f);
     }
+
+pub returns-in_default-clause-turns : goal.returns-in_default-clause-turns
+returns-in_default-clause-turns g c = spends_none (g.S.Steps.view c.args.steps.now) c.args.left.now c.requires.some
