@@ -2,7 +2,8 @@
 use Rattle.std.proofs.Common.{◌≡◌, ◌∙◌, ◌+◌, ℕ, nat_lt, Bool, List, Option, Some, None, sym, ap, subst}
 use Rattle.std.proofs.lemmas.Option.{same_Some}
 use Rattle.art_attempt.proofs.Finds.{finding_allowed}
-use Rattle.art_attempt.proofs.Given.{ask_looks, if_some, look_once, look_row, made_row, plain_row, supply_asks_supply, supply_once, supply_plain, vouch_asks_look}
+use Rattle.art_attempt.proofs.Given.{ask_looks, look_once, look_row, made_row, plain_row, supply_once, supply_plain}
+use Rattle.art_gather.proofs.Asked.{if_some, supply_asks_supply, vouch_asks_look}
 use Rattle.art_make.proofs.Keeping.{asks_made}
 use Rattle.art_attempt.specs.Asking.{Answers, given}
 use Rattle.art_attempt.specs.Inserting.{Fits, StageFits, asks, asks_at, deed_at}

@@ -20,7 +20,7 @@ use Rattle.art_commit.specs.CommitLaws.{HasNode}
 use Rattle.art_plan.specs.ChooseInsert.Plans.{HasNeeded, IsLockedAt}
 use Rattle.art_plan.specs.ChooseInsert.Needs.{needs_of}
 use Rattle.art_plan.specs.ChooseInsert.Seen.{IsSeen}
-use Rattle.art_attempt.proofs.Given.{vouch_asks_look}
+use Rattle.art_gather.proofs.Asked.{vouch_asks_look}
 use Rattle.art_machine.proofs.Counting.{Counted, look_counts}
 use Rattle.art_find.specs.Descents.{IsReading}
 use Rattle.art_machine.specs.Acting.{Answers, goes_on, telling}
@@ -262,6 +262,7 @@ module _ (z : Sizes) (u : View) (m : Inserting) (r : Room) (v : View) (h : HasMa
         plain = h.plain;
         leaf = h.leaf;
         deed = h.deed;
+        effects = h.effects;
         fits = fits;
       }
 
@@ -277,7 +278,7 @@ module _ (z : Sizes) (u : View) (m : Inserting) (r : Room) (v : View) (h : HasMa
         omega (arith, spent, steps, more)
 
     -- it is made
-    pub change_entered : made ≡ Ok tt → HasEntered z u (record r { stock = spent_by r.change r.stock }) v
+    pub change_entered : made ≡ Ok tt → HasEntered z u m.position (record r { stock = spent_by r.change r.stock }) v
     change_entered ok =
         let done = over.done tt ok in
         let leaves : (l : ℕ) → r.change.effects.leaf ≡ Some l → r.stock.leaf ≡ Some l = λ l at. sym h.leaf ∙ at in
@@ -285,6 +286,7 @@ module _ (z : Sizes) (u : View) (m : Inserting) (r : Room) (v : View) (h : HasMa
         λ n at. let hand = (h.fits.planned.new false n at).hand in subst (IsIn r.stock) hand.2 (h.has.only hand.0 hand.1) in
         record {
           event = event_since u h.early h.base v (inserted r.row) (subst (λ (d : Deed). MakesEvent h.early v d) h.deed done.event);
+          effects = h.effects;
           pins = done.pins;
           limbo = limbo_committed u h.early h.base v r.change done over.free;
           once = done.once;

@@ -16,6 +16,7 @@ use Rattle.art_find.specs.declared.rereadings.Rereading.{Rereading}
 use Rattle.art_find.specs.declared.verdicts.Verdict.{Verdict}
 use Rattle.art_find.specs.declared.verdicts.Verdict.TheVariants as verdict
 use Rattle.art_frame.specs.declared.stocks.Stock.{Stock}
+use Rattle.art_gather.proofs.Asked.{IsSupply}
 use Rattle.art_gather.specs.Lowering as lowering
 use Rattle.art_gather.specs.Reserve as reserve
 use Rattle.art_gather.specs.Reserve.{leaf_asked}
@@ -59,63 +60,7 @@ use Rattle.art_step.specs.declared.views.View.{View}
 
 -- ---- what is asked for
 
--- a step by which numbers or the words of a leaf come
-abbrev pub IsSupply : Action → Type 0
-IsSupply (ClearBit p i o) = ⊤
-IsSupply (WriteLeaf l i word) = ⊤
-IsSupply a = ⊥
-
-then_some : {A B : Type 0} (f : A → Option B) (o : Option A) (y : B) → option_and_then f o ≡ Some y → (x : A) × (o ≡ Some x) × (f x ≡ Some y)
-then_some f None y e = absurd (cc)
-then_some f (Some x) y e = (x, refl, e)
-
-pub if_some : {A : Type 0} (b : Bool) (x y : A) → (if b then Some x else None) ≡ Some y → x ≡ y
-if_some true x y e = same_Some x y e
-if_some false x y e = absurd (cc)
-
-taking_supply : (t : Taking) (a : Action) → taking.asks t ≡ Some a → IsSupply a
-taking_supply t a is = by_search t.search is
-  where
-    by_search : (s : Search) → taking.asks_at t.pool t.words t.first s ≡ Some a → IsSupply a
-    by_search (Looking n) e = subst IsSupply (if_some (nat_lt n t.words) (ClearBit t.pool (taking.around t.words t.first n) None) a e) tt
-    by_search (Clearing n k) e = subst IsSupply (same_Some (ClearBit t.pool (taking.around t.words t.first n) (Some k)) a e) tt
-    by_search (Took n k) e = absurd (cc)
-
-pub supply_asks_supply : (k : List ℕ) (value : ℕ) (s : Stock) (m : Reserve) (a : Action) → reserve.asks k value s m ≡ Some a → IsSupply a
-supply_asks_supply k value s (supply.Leaf t) a is = taking_supply t a is
-supply_asks_supply k value s (supply.LeafWriter p) a is =
-    let l = then_some (leaf_asked k value p) s.leaf a is in
-    subst IsSupply (if_some (nat_lt p.place 10) (WriteLeaf l.0 p.place (leaf_word k value p.place)) a l.2) tt
-supply_asks_supply k value s (supply.Node t) a is = taking_supply t a is
-supply_asks_supply k value s (supply.Ended r) a is = absurd (cc)
-
-pub reads_look : (x : Stamp) (r : Rereading) (a : Action) → reads_next x r ≡ Some a → IsLook a
-reads_look x r a is = subst IsLook (if_some (nat_lt r.place (size_of x.cell)) (Read x r.place) a is) tt
-
-above_look : (r : Rereading) (o : Option CellAbove) (a : Action) → option_and_then (above_reads r) o ≡ Some a → IsLook a
-above_look r o a is = let k = then_some (above_reads r) o a is in reads_look k.0.stamp r a k.2
-
-above_check : (o : Option CellAbove) (a : Action) → option_map above_checks o ≡ Some a → IsLook a
-above_check o a is = let k = map_some above_checks o a is in subst IsLook k.2 tt
-
-pub vouch_asks_look : (t : Position) (m : Vouching) (a : Action) → vouching.asks t m ≡ Some a → IsLook a
-vouch_asks_look t (vouch.Above r) a is = above_look r t.above a is
-vouch_asks_look t (vouch.Here r) a is = reads_look t.stamp r a is
-vouch_asks_look t vouch.CheckAbove a is = above_check t.above a is
-vouch_asks_look t vouch.CheckHere a is = subst IsLook (same_Some (Check t.stamp) a is) tt
-vouch_asks_look t (vouch.Ended r) a is = absurd (cc)
-
-pub lower_asks_look : (t : Position) (m : Lowering) (a : Action) → lowering.asks t m ≡ Some a → IsLook a
-lower_asks_look t (lower.Beginning n) a is = subst IsLook (same_Some (Begin (cell.Node n)) a is) tt
-lower_asks_look t (lower.Named x) a is = subst IsLook (same_Some (Check t.stamp) a is) tt
-lower_asks_look t (lower.Above x r) a is = above_look r t.above a is
-lower_asks_look t (lower.Lower x r) a is = reads_look x r a is
-lower_asks_look t (lower.CheckAbove x) a is = above_check t.above a is
-lower_asks_look t (lower.CheckHere x) a is = subst IsLook (same_Some (Check t.stamp) a is) tt
-lower_asks_look t (lower.CheckLower x) a is = subst IsLook (same_Some (Check x) a is) tt
-lower_asks_look t (lower.Ended r) a is = absurd (cc)
-
--- so is the check of a place
+-- the check of a place is a look
 pub check_look : (found : Verdict) (t : Position) → IsLook (check_by found t)
 check_look (verdict.Found l value) t = tt
 check_look verdict.Empty t = tt
@@ -366,7 +311,3 @@ supply_once z f ReadEpoch r v w is row = absurd is
 supply_once z f (StorePin word) r v w is row = absurd is
 supply_once z f RaiseEpoch r v w is row = absurd is
 supply_once z f (ReadPin q) r v w is row = absurd is
-
--- so of a reserve one is made
-pub supply_steps : (z : Sizes) (a : Action) (r : Answer) (v w : View) → IsSupply a → acting.IsAllowed z None v a → acting.Answers z None a r v w → w.steps ≡ v.steps + 1
-supply_steps z a r v w is may row = steps_made z None a r v w may row ∙ ap (λ (n : ℕ). v.steps + n) (supply_once z None a r v w is row)

@@ -12,7 +12,7 @@ use Rattle.art_attempt.specs.declared.inserting.Stage.TheVariants as stage
 use Rattle.art_attempt.specs.declared.rooms.Room.{Room}
 use Rattle.art_cell.specs.declared.cells.Cell.{Cell as CellOf}
 use Rattle.art_cell.specs.declared.layouts.Pool.{Pool}
-use Rattle.art_plan.specs.ChooseInsert.Plans.{Comes, IsLockedAt, LocksOnly}
+use Rattle.art_plan.specs.ChooseInsert.Plans.{Comes, IsLockedAt, LocksOnly, gives_way}
 use Rattle.art_find.specs.Descents as descents
 use Rattle.art_find.specs.Verdicts.{value_of}
 use Rattle.art_find.specs.declared.verdicts.Verdict.{Verdict}
@@ -25,7 +25,7 @@ use Rattle.art_machine.specs.Acting.{goes_on, passed}
 use Rattle.art_machine.specs.declared.actions.Action.{Action}
 use Rattle.art_machine.specs.declared.actions.Action.TheVariants.{Check, Settle}
 use Rattle.art_machine.specs.declared.actions.Answer.{Answer}
-use Rattle.art_plan.specs.Insert.Puts.{inserted}
+use Rattle.art_plan.specs.Insert.Puts.{insert_effects, inserted}
 use Rattle.art_plan.specs.declared.insert.leaves.NewLeaf.{NewLeaf}
 use Rattle.art_make.specs.Apply as apply
 use Rattle.art_make.specs.Apply.{HasFailed, fault_of, is_begun, most_steps}
@@ -188,6 +188,7 @@ pub record HasMade (z : Sizes) (u : View) (m : Inserting) (r : Room) (v : View) 
   pub plain : r.change.copy ≡ None
   pub leaf : r.change.effects.leaf ≡ r.stock.leaf
   pub deed : r.change.effects.deed ≡ inserted r.row
+  pub effects : r.change.effects ≡ insert_effects r.row (gives_way m.position.verdict)
   pub fits : apply.Fits z r.change m.apply early v
 
 abbrev pub free_at : Stage → Apply → Bool
@@ -245,9 +246,10 @@ pub record EndsSo (z : Sizes) (u : View) (r : Room) (v : View) : Type 0 where
   pub spent : HasSpent z u 22900 v
   pub has : HasStock z r.row.key.items r.row.value v r.stock
 
--- the leaf is in the tree: one event; what the change unlinked is in limbo, what it linked left the hand
-pub record HasEntered (z : Sizes) (u : View) (r : Room) (v : View) : Type 0 where
+-- the leaf is in the tree: one event; what the place says gives way to it is in limbo, what the change linked left the hand
+pub record HasEntered (z : Sizes) (u : View) (t : Position) (r : Room) (v : View) : Type 0 where
   pub event : MakesEvent u v (inserted r.row)
+  pub effects : r.change.effects ≡ insert_effects r.row (gives_way t.verdict)
   pub pins : List Pin
   pub limbo : v.limbo ≡ all_retired pins (unlinked r.change) ++ u.limbo
   pub once : IsOnce (links_in_limbo v.limbo)
@@ -290,7 +292,7 @@ pub record IsOverlap (z : Sizes) (u : View) (t : Position) (r : Room) (v : View)
   pub overlaps : t.verdict ≡ verdict.Overlaps
 
 abbrev pub EndFits : Sizes → View → Position → Room → Entered → View → Type 0
-EndFits z u t r New v = HasEntered z u r v
+EndFits z u t r New v = HasEntered z u t r v
 EndFits z u t r (Present stands) v = IsPresent z u r stands v
 EndFits z u t r (Full pool) v = EndsSo z u r v × IsFull z u t r pool v
 EndFits z u t r (Exhausted c) v = EndsSo z u r v × IsExhausted z u t r c v

@@ -12,7 +12,7 @@ use Rattle.art_change.specs.declared.writes.Outcome.TheVariants.{New, Present, G
 use Rattle.art_change.specs.declared.writes.Write.{Write}
 use Rattle.art_epoch.specs.declared.limbo.Place.{Place}
 use Rattle.art_erase.proofs.Chosen.{goes_since}
-use Rattle.art_erase.proofs.Founds.{same_found}
+use Rattle.art_erase.proofs.ArtGather.Asked.{same_found}
 use Rattle.art_erase.specs.ArtGather.Reserve.{StayFound}
 use Rattle.art_erase.specs.ArtAttempt.declared.rooms.Room.{Room}
 use Rattle.art_erase.specs.ArtFrame.Closings.{is_ended}

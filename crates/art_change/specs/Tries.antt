@@ -121,7 +121,7 @@ pub record IsFirst (job : Job) (t : Trying) : Type 0 where
 
 -- how an insert ended
 abbrev pub InsertEnds : Sizes → View → Insertion → Room → Tried → View → Type 0
-InsertEnds z u m r New v = HasEntered z u r v
+InsertEnds z u m r New v = HasEntered z u m.position r v
 InsertEnds z u m r (Present stands) v = IsPresent z u r stands v
 InsertEnds z u m r (Full pool) v = EndsSo z u Insert r v × IsFull z u m.position r pool v
 InsertEnds z u m r (Exhausted c) v = EndsSo z u Insert r v × IsExhausted z u m.position r c v

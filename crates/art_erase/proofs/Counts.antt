@@ -1,7 +1,8 @@
 -- Each step of an attempt is as many as its answer says; what it commits is the removal.
 use Rattle.std.proofs.Common.{◌≡◌, ◌+◌, Bool, Some}
 use Rattle.art_attempt.proofs.Counts.{change_made, look_made, supply_made}
-use Rattle.art_attempt.proofs.Given.{ask_looks, lower_asks_look, reads_look, supply_asks_supply, vouch_asks_look}
+use Rattle.art_attempt.proofs.Given.{ask_looks}
+use Rattle.art_gather.proofs.Asked.{lower_asks_look, reads_look, supply_asks_supply, vouch_asks_look}
 use Rattle.art_attempt.specs.Asking.{Answers}
 use Rattle.art_attempt.specs.ArtPlan.Remove.Removals.{removed}
 use Rattle.art_attempt.specs.declared.rooms.Room.{Room}

@@ -8,7 +8,6 @@ pub mod Chosen
 pub mod Counts
 pub mod Finds
 pub mod Free
-pub mod Founds
 mod Heard
 mod Joins
 mod Left

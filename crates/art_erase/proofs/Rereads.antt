@@ -2,7 +2,7 @@
 use Rattle.std.proofs.Common.{◌≡◌, ◌≢◌, ◌<◌, ◌≤◌, ℕ, nat_lt, true, false, Some, None, ⊎_elim, ◌∙◌, sym, subst, arith}
 use Rattle.std.proofs.lemmas.Bool.{cases_Bool, ltb-true, ltb-false}
 use Rattle.art_attempt.proofs.ArtGather.Vouches.{here_on, read_told}
-use Rattle.art_attempt.proofs.Given.{reads_look}
+use Rattle.art_gather.proofs.Asked.{reads_look}
 use Rattle.art_attempt.proofs.Steps.{cell_later, cell_step}
 use Rattle.art_attempt.proofs.Tries.{later_then}
 use Rattle.art_attempt.specs.ArtGather.Vouching.{IsVouching}

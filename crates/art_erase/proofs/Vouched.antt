@@ -33,7 +33,7 @@ use Rattle.art_erase.proofs.Finds.{within_so}
 use Rattle.art_erase.specs.Erasing.{EndFits, EndsSo, EndsWithin, HasErased, HasLower, HasMade, HasNumbers, HasSupplies, HasVouched}
 use Rattle.art_erase.specs.Erasing.{IsChecked, IsLockedBy, IsLost, LeavesOther, given_up, goes, demand_of}
 use Rattle.art_erase.specs.declared.erasing.Erasing.{Erasing}
-use Rattle.art_attempt.proofs.Given.{lower_asks_look}
+use Rattle.art_gather.proofs.Asked.{lower_asks_look}
 use Rattle.art_machine.proofs.Counting.{Counted, look_counts}
 use Rattle.art_find.specs.Descents.{IsReading}
 use Rattle.art_machine.specs.Acting.{Answers, goes_on, telling}
@@ -135,7 +135,7 @@ module _ (z : Sizes) (u : View) (m : Erasing) (r : Room) (v : View) (h : HasVouc
   pub vouched_on : (w : View) (next : Vouching) (read_set : ReadSet) → v.steps ≤ w.steps → StayFound v w → StaysRead (node_of r.read_set) (node_of read_set)
       → (KnowsHere m.position r.read_set → node_of read_set ≡ node_of r.read_set) → vouching.Fits z r.gone.key.items (goes m.way) m.position next read_set h.early w
       → HasVouched z u (record m { vouching = next }) (record r { read_set = read_set }) w
-  vouched_on w next read_set more found stays node fits =
+  vouched_on w next read_set more found stays whole fits =
       let before = h.later.steps in
       let same = fits.failures in
       let few = no_fewer next h.early.failures in
@@ -146,7 +146,7 @@ module _ (z : Sizes) (u : View) (m : Erasing) (r : Room) (v : View) (h : HasVouc
         spent = h.spent;
         has = h.has;
         found = h.found;
-        chosen = chosen_stays m.position r.read_set read_set z m.way r.gone r.stock u w stays node (chosen_later v w found z m.way m.position r.read_set r.gone r.stock u h.chosen);
+        chosen = chosen_stays m.position r.read_set read_set z m.way r.gone r.stock u w stays whole (chosen_later v w found z m.way m.position r.read_set r.gone r.stock u h.chosen);
         fits = fits;
       }
 

@@ -71,7 +71,7 @@ then_some : {A B : Type 0} (f : A → Option B) (o : Option A) (y : B) → optio
 then_some f None y e = absurd (cc)
 then_some f (Some x) y e = (x, refl, e)
 
-if_some : {A : Type 0} (b : Bool) (x y : A) → (if b then Some x else None) ≡ Some y → x ≡ y
+pub if_some : {A : Type 0} (b : Bool) (x y : A) → (if b then Some x else None) ≡ Some y → x ≡ y
 if_some true x y e = same_Some x y e
 if_some false x y e = absurd (cc)
 
@@ -80,18 +80,18 @@ pub not_none : {A : Type 0} (o : Option A) → (o ≡ None → ⊥) → (x : A) 
 not_none None differs = absurd (differs refl)
 not_none (Some x) differs = (x, refl)
 
-reads_look : (x : Stamp) (r : Rereading) (a : Action) → reads_next x r ≡ Some a → IsCellLook a
-reads_look x r a is = subst IsCellLook (if_some (nat_lt r.place (size_of x.cell)) (Read x r.place) a is) tt
+reads_cell : (x : Stamp) (r : Rereading) (a : Action) → reads_next x r ≡ Some a → IsCellLook a
+reads_cell x r a is = subst IsCellLook (if_some (nat_lt r.place (size_of x.cell)) (Read x r.place) a is) tt
 
 above_look : (r : Rereading) (o : Option CellAbove) (a : Action) → option_and_then (above_reads r) o ≡ Some a → IsCellLook a
-above_look r o a is = let k = then_some (above_reads r) o a is in reads_look k.0.stamp r a k.2
+above_look r o a is = let k = then_some (above_reads r) o a is in reads_cell k.0.stamp r a k.2
 
 above_check : (o : Option CellAbove) (a : Action) → option_map above_checks o ≡ Some a → IsCellLook a
 above_check o a is = let k = map_some above_checks o a is in subst IsCellLook k.2 tt
 
 pub vouching_looks : (t : Position) (m : Vouching) (a : Action) → vouching.asks t m ≡ Some a → IsCellLook a
 vouching_looks t (vouch.Above r) a is = above_look r t.above a is
-vouching_looks t (vouch.Here r) a is = reads_look t.stamp r a is
+vouching_looks t (vouch.Here r) a is = reads_cell t.stamp r a is
 vouching_looks t vouch.CheckAbove a is = above_check t.above a is
 vouching_looks t vouch.CheckHere a is = subst IsCellLook (same_Some (Check t.stamp) a is) tt
 vouching_looks t (vouch.Ended r) a is = absurd (cc)
@@ -100,7 +100,7 @@ pub lowering_looks : (t : Position) (m : Lowering) (a : Action) → lowering.ask
 lowering_looks t (lower.Beginning n) a is = subst IsCellLook (same_Some (Begin (cell.Node n)) a is) tt
 lowering_looks t (lower.Named x) a is = subst IsCellLook (same_Some (Check t.stamp) a is) tt
 lowering_looks t (lower.Above x r) a is = above_look r t.above a is
-lowering_looks t (lower.Lower x r) a is = reads_look x r a is
+lowering_looks t (lower.Lower x r) a is = reads_cell x r a is
 lowering_looks t (lower.CheckAbove x) a is = above_check t.above a is
 lowering_looks t (lower.CheckHere x) a is = subst IsCellLook (same_Some (Check t.stamp) a is) tt
 lowering_looks t (lower.CheckLower x) a is = subst IsCellLook (same_Some (Check x) a is) tt
@@ -114,21 +114,30 @@ taking_supplies t a is = by_search t.search is
     by_search (Clearing n k) e = subst IsSupply (same_Some (ClearBit t.pool (taking.around t.words t.first n) (Some k)) a e) tt
     by_search (Took n k) e = absurd (cc)
 
-pub reserve_supplies : (k : List ℕ) (value : ℕ) (s : Stock) (m : Reserve) (a : Action) → reserve.asks k value s m ≡ Some a → IsSupply a
-reserve_supplies k value s (supply.Leaf t) a is = taking_supplies t a is
-reserve_supplies k value s (supply.LeafWriter p) a is =
+pub supply_asks_supply : (k : List ℕ) (value : ℕ) (s : Stock) (m : Reserve) (a : Action) → reserve.asks k value s m ≡ Some a → IsSupply a
+supply_asks_supply k value s (supply.Leaf t) a is = taking_supplies t a is
+supply_asks_supply k value s (supply.LeafWriter p) a is =
     let l = then_some (leaf_asked k value p) s.leaf a is in
     subst IsSupply (if_some (nat_lt p.place 10) (WriteLeaf l.0 p.place (leaf_word k value p.place)) a l.2) tt
-reserve_supplies k value s (supply.Node t) a is = taking_supplies t a is
-reserve_supplies k value s (supply.Ended r) a is = absurd (cc)
+supply_asks_supply k value s (supply.Node t) a is = taking_supplies t a is
+supply_asks_supply k value s (supply.Ended r) a is = absurd (cc)
 
 -- ---- a look at a cell
 
-look_looks : (a : Action) → IsCellLook a → IsLook a
+pub look_looks : (a : Action) → IsCellLook a → IsLook a
 look_looks (Begin c) is = tt
 look_looks (Read x i) is = tt
 look_looks (Check x) is = tt
 look_looks a is = absurd is
+
+pub reads_look : (x : Stamp) (r : Rereading) (a : Action) → reads_next x r ≡ Some a → IsLook a
+reads_look x r a is = look_looks a (reads_cell x r a is)
+
+pub vouch_asks_look : (t : Position) (m : Vouching) (a : Action) → vouching.asks t m ≡ Some a → IsLook a
+vouch_asks_look t m a is = look_looks a (vouching_looks t m a is)
+
+pub lower_asks_look : (t : Position) (m : Lowering) (a : Action) → lowering.asks t m ≡ Some a → IsLook a
+lower_asks_look t m a is = look_looks a (lowering_looks t m a is)
 
 -- does no deed, so any is as good
 pub some_deed : Deed
@@ -160,27 +169,27 @@ checked_stays : (z : Sizes) (v w : View) (x : Stamp) (r : Result (Unit {0}) Chan
 checked_stays z v w x (Ok done) row = more_found v w _ (ap (λ (u : View). u.found) row.is)
 checked_stays z v w x (Err c) row = more_found v w _ (ap (λ (u : View). u.found) row.3.is)
 
-by_answer : (z : Sizes) (d : Deed) (a : Action) (r : Answer) (v w : View) → IsCellLook a → Answers z (telling d) a r v w → StayFound v w
-by_answer z d (Begin c) (Begun (Ok x)) v w is row = begun_stays z v w c x.version true (eq-eqb (x.version % 4) 0 row.1) row.2
-by_answer z d (Begin c) (Begun (Err l)) v w is row = begun_stays z v w c l.found false (ne_eqb (l.found % 4) 0 row.1) row.2
-by_answer z d (Read x i) (Word a) v w is row = same_found v w (ap (λ (u : View). u.found) row.is)
-by_answer z d (Check x) (Checked r) v w is row = checked_stays z v w x r row
-by_answer z d (Begin c) (Word y) v w is row = absurd row
-by_answer z d (Begin c) (Checked r) v w is row = absurd row
-by_answer z d (Begin c) (Upgraded r) v w is row = absurd row
-by_answer z d (Begin c) Done v w is row = absurd row
-by_answer z d (Read x i) (Begun r) v w is row = absurd row
-by_answer z d (Read x i) (Checked r) v w is row = absurd row
-by_answer z d (Read x i) (Upgraded r) v w is row = absurd row
-by_answer z d (Read x i) Done v w is row = absurd row
-by_answer z d (Check x) (Begun r) v w is row = absurd row
-by_answer z d (Check x) (Word y) v w is row = absurd row
-by_answer z d (Check x) (Upgraded r) v w is row = absurd row
-by_answer z d (Check x) Done v w is row = absurd row
-by_answer z d a r v w is row = absurd is
+pub look_found : (z : Sizes) (d : Deed) (a : Action) (r : Answer) (v w : View) → IsCellLook a → Answers z (telling d) a r v w → StayFound v w
+look_found z d (Begin c) (Begun (Ok x)) v w is row = begun_stays z v w c x.version true (eq-eqb (x.version % 4) 0 row.1) row.2
+look_found z d (Begin c) (Begun (Err l)) v w is row = begun_stays z v w c l.found false (ne_eqb (l.found % 4) 0 row.1) row.2
+look_found z d (Read x i) (Word a) v w is row = same_found v w (ap (λ (u : View). u.found) row.is)
+look_found z d (Check x) (Checked r) v w is row = checked_stays z v w x r row
+look_found z d (Begin c) (Word y) v w is row = absurd row
+look_found z d (Begin c) (Checked r) v w is row = absurd row
+look_found z d (Begin c) (Upgraded r) v w is row = absurd row
+look_found z d (Begin c) Done v w is row = absurd row
+look_found z d (Read x i) (Begun r) v w is row = absurd row
+look_found z d (Read x i) (Checked r) v w is row = absurd row
+look_found z d (Read x i) (Upgraded r) v w is row = absurd row
+look_found z d (Read x i) Done v w is row = absurd row
+look_found z d (Check x) (Begun r) v w is row = absurd row
+look_found z d (Check x) (Word y) v w is row = absurd row
+look_found z d (Check x) (Upgraded r) v w is row = absurd row
+look_found z d (Check x) Done v w is row = absurd row
+look_found z d a r v w is row = absurd is
 
 pub look_stays : (z : Sizes) (a : Action) (r : Answer) (v w : View) → IsCellLook a → ((d : Deed) → Answers z (telling d) a r v w) → StayFound v w
-look_stays z a r v w is row = by_answer z some_deed a r v w is (row some_deed)
+look_stays z a r v w is row = look_found z some_deed a r v w is (row some_deed)
 
 -- ---- a step of a reserve
 

@@ -4,6 +4,6 @@ mod LowerOthers
 pub mod LowerSeen
 mod Lowers
 mod Rereads
-pub mod Spending
+mod Spending
 pub mod Supplies
 pub mod Vouches

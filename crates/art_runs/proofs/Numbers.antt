@@ -21,7 +21,7 @@ use Rattle.art_call.specs.ArtGather.Reserve.{leaf_asked}
 use Rattle.art_call.specs.ArtGather.declared.reserve.Reserve.{Reserve}
 use Rattle.art_call.specs.ArtGather.declared.reserve.Reserve.TheVariants as supplies
 use Rattle.art_call.specs.ArtGather.declared.reserve.Demand.{Demand}
-use Rattle.art_call.proofs.ArtAttempt.Given.{if_some}
+use Rattle.art_call.proofs.ArtAttempt.ArtGather.Asked.{if_some}
 use Rattle.art_machine.specs.declared.actions.Action.{Action}
 use Rattle.art_machine.specs.declared.actions.Action.TheVariants.{ClearBit, WriteLeaf}
 use Rattle.art_call.specs.ArtMake.declared.leaf_writer.LeafWriter.{LeafWriter}

@@ -7,7 +7,8 @@ use Rattle.std.specs.Option.{option_and_then, option_map}
 use Rattle.std.specs.Prelude.{◌==◌, ◌++◌}
 use Rattle.art_call.proofs.ArtAttempt.Free.{free_so}
 use Rattle.art_call.proofs.ArtAttempt.Finds as insert_finds
-use Rattle.art_call.proofs.ArtAttempt.Given.{IsSupply, ask_looks, lower_asks_look, reads_look, supply_asks_supply, vouch_asks_look}
+use Rattle.art_call.proofs.ArtAttempt.Given.{ask_looks}
+use Rattle.art_call.proofs.ArtAttempt.ArtGather.Asked.{IsSupply, lower_asks_look, reads_look, supply_asks_supply, vouch_asks_look}
 use Rattle.art_make.proofs.Keeping.{IsMade, asks_made}
 use Rattle.art_call.proofs.ArtAttempt.Left.{tries_some}
 use Rattle.art_call.proofs.ArtErase.Finds as erase_finds

@@ -4,7 +4,8 @@ use Rattle.std.proofs.lemmas.Option.{same_Some}
 use Rattle.std.specs.Option.{option_and_then, option_map}
 use Rattle.art_call.proofs.ArtAttempt.Free.{free_so}
 use Rattle.art_call.proofs.ArtAttempt.Finds as insert_finds
-use Rattle.art_call.proofs.ArtAttempt.Given.{ask_looks, lower_asks_look, reads_look, vouch_asks_look}
+use Rattle.art_call.proofs.ArtAttempt.Given.{ask_looks}
+use Rattle.art_call.proofs.ArtAttempt.ArtGather.Asked.{lower_asks_look, reads_look, vouch_asks_look}
 use Rattle.art_call.proofs.ArtErase.Finds as erase_finds
 use Rattle.art_call.specs.ArtAttempt.Asking.{IsAllowed}
 use Rattle.art_call.specs.ArtAttempt.Inserting as inserts

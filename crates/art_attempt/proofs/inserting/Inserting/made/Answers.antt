@@ -12,7 +12,7 @@ returns-in-Ok-clause-fits c z u v room h is =
     let entered = change_entered z u m r v h c.args.made is c.in-Ok.is in
     record {
       room = subst (IsRoom z) (sym c.spend.ensures) (record { sizes = room.sizes; key = room.key });
-      stage = subst (λ (q : Room). HasEntered z u q v) (sym c.spend.ensures) entered;
+      stage = subst (λ (q : Room). HasEntered z u m.position q v) (sym c.spend.ensures) entered;
     }
 
 pub returns-in-Err-clause-fits : goal.returns-in-Err-clause-fits

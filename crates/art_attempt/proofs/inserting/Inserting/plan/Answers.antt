@@ -36,6 +36,7 @@ returns-clause-fits c z u v room h is =
           plain = planned.plain;
           leaf = ap (λ (e : Effects). e.leaf) c.plan_insert.ensures.effects ∙ sym at;
           deed = ap (λ (e : Effects). e.deed) c.plan_insert.ensures.effects;
+          effects = c.plan_insert.ensures.effects;
           fits = c.new-self.ensures.fits z v (plain_whole z v c.plan_insert.new.change planned) so.still.free;
         },
         c.new-self.ensures.going c.plan_insert.ensures.targets,

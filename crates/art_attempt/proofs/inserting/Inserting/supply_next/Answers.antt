@@ -1,6 +1,7 @@
 use Rattle.std.proofs.Common.{◌≡◌, ◌∙◌, List, ℕ, sym, refl, subst, Option, Some, None}
 use Rattle.std.specs.Prelude.{IfSome}
-use Rattle.art_attempt.proofs.Given.{plain_may, supply_asks_supply, supply_plain}
+use Rattle.art_attempt.proofs.Given.{plain_may, supply_plain}
+use Rattle.art_gather.proofs.Asked.{supply_asks_supply}
 use Rattle.art_attempt.proofs.inserting.Inserting.supply_next.Goals as goal
 use Rattle.art_attempt.specs.Asking.{IsAllowed}
 use Rattle.art_attempt.specs.Rooms.{demand_of}

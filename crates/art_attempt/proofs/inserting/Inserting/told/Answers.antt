@@ -1,6 +1,7 @@
 use Rattle.std.proofs.Common.{◌∙◌, ◌-◌, ◌<◌, ap, sym, subst}
 use Rattle.art_attempt.proofs.Finds.{finding_allowed}
-use Rattle.art_attempt.proofs.Given.{ask_looks, look_once, look_row, made_row, plain_row, supply_asks_supply, supply_once, supply_plain, vouch_asks_look}
+use Rattle.art_attempt.proofs.Given.{ask_looks, look_once, look_row, made_row, plain_row, supply_once, supply_plain}
+use Rattle.art_gather.proofs.Asked.{supply_asks_supply, vouch_asks_look}
 use Rattle.art_make.proofs.Keeping.{asks_made}
 use Rattle.art_attempt.proofs.Left.{free_less}
 use Rattle.art_attempt.proofs.inserting.Inserting.told.Goals as goal

@@ -1,6 +1,6 @@
 use Rattle.std.proofs.Common.{sym, subst}
 use Rattle.art_attempt.proofs.Enters.{changed_by, vouched_on}
-use Rattle.art_attempt.proofs.Given.{vouch_asks_look}
+use Rattle.art_gather.proofs.Asked.{vouch_asks_look}
 use Rattle.art_attempt.proofs.Steps.{cell_later}
 use Rattle.art_attempt.proofs.inserting.Inserting.vouch_told.Goals as goal
 use Rattle.art_attempt.specs.Inserting.{deed_at}

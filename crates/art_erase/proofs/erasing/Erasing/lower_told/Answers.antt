@@ -1,4 +1,4 @@
-use Rattle.art_attempt.proofs.Given.{lower_asks_look}
+use Rattle.art_gather.proofs.Asked.{lower_asks_look}
 use Rattle.art_attempt.proofs.Steps.{cell_later}
 use Rattle.art_erase.proofs.Vouched.{lower_changed_by, lower_on}
 use Rattle.art_erase.proofs.erasing.Erasing.lower_told.Goals as goal

@@ -3,7 +3,7 @@ use Rattle.std.proofs.Common.{◌∙◌, sym, subst, arith}
 use Rattle.std.specs.Prelude.{⊤}
 use Rattle.art_erase.proofs.Stages.{reads_on, kept_on}
 use Rattle.art_erase.specs.Erasing.{Fits, absent}
-use Rattle.art_attempt.proofs.Given.{reads_look}
+use Rattle.art_gather.proofs.Asked.{reads_look}
 use Rattle.art_find.specs.Asking.{MayLook}
 use Rattle.art_machine.proofs.Counting.{look_counts}
 use Rattle.art_machine.specs.Acting.{Answers, telling}

@@ -1,7 +1,7 @@
 -- Words are written, and then one step is asked for, made and told.
 use Rattle.std.proofs.Common.{◌≡◌, ◌∙◌, ℕ, List, None, Some, inl, inr, refl, sym, subst, arith}
 use Rattle.art_frame.specs.declared.stocks.Stock.{Stock}
-use Rattle.art_gather.proofs.Asked.{not_none, reserve_supplies, supply_steps}
+use Rattle.art_gather.proofs.Asked.{not_none, supply_asks_supply, supply_steps}
 use Rattle.art_gather.proofs.Spending.{spends_none, spends_on, spends_one}
 use Rattle.art_gather.specs.Reserve.{Fits, asks, ended_at}
 use Rattle.art_gather.specs.declared.reserve.Demand.{Demand}
@@ -126,7 +126,7 @@ loop-left-preserved g c =
     let is : asks k value l.stock m ≡ Some a = sym {b = asks k value l.stock m} c.next.ensures.asks ∙ c.in-Some.is in
     let row : Answers z None a r v w = subst (λ (y : Sizes). Answers y None a r v w) same c.perform-answer.ensures.row in
     let may = c.in-Some.ensures.allowed z i.here.0 v demand (packed i.here.0 i.here.1) in
-    let one = supply_steps z a r v w (reserve_supplies k value l.stock m a is) may row in
+    let one = supply_steps z a r v w (supply_asks_supply k value l.stock m a is) may row in
     let so_far = spends_on (g.S.Steps.view s) (g.S.Steps.view l.steps) v c.args.left.now l.left c.pack_on.new.left i.turns c.pack_on.ensures.turns in
     let other = c.if-left-eq1.false in
     let some = c.pack_on.ensures.turns.some in
