@@ -18,14 +18,14 @@ impl Apply {
 
     /// Whether words are to be written.
     #[inline(always)]
-    pub fn is_writing(&self) -> bool
+    pub(crate) fn is_writing(&self) -> bool
         ensures { result ≡ is_writing self.now }
     {
         matches!(self, Apply::Filling { .. } | Apply::Writing(_))
     }
 
     /// Writes all words that are left, where it stands among them, and says how many those were; elsewhere none.
-    pub fn write_on<S: Steps>(&mut self, steps: &mut S, change: &Change) -> u32
+    pub(crate) fn write_on<S: Steps>(&mut self, steps: &mut S, change: &Change) -> u32
         requires fits { (u : View) × Fits (S.sizes steps.old) change.now self.old u (S.view steps.old) }
         ensures only { S.only steps.old steps.new }
         ensures written { WritesAll change.now self.old self.new result }

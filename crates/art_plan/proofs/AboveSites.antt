@@ -1,6 +1,7 @@
 -- The cell above has the node as its child: the site of the node, and what a plan that writes both knows.
 use Rattle.std.proofs.Common.{◌≡◌, ◌≢◌, ℕ, ◌-◌, ◌<◌, List, get_or, take, Some, refl, sym, ◌∙◌, subst}
 use Rattle.std.specs.Borrow.{Bor}
+use Rattle.art_cell.specs.Children.{child_word}
 use Rattle.art_cell.specs.declared.bodies.Body.{Body}
 use Rattle.art_cell.specs.declared.cells.Cell.{Cell}
 use Rattle.art_cell.specs.declared.cells.Cell.TheVariants as cell
@@ -19,6 +20,7 @@ use Rattle.art_find.specs.declared.read_sets.ReadSet.{ReadSet}
 use Rattle.art_find.specs.declared.findings.Above.{Above}
 use Rattle.art_find.specs.declared.findings.Position.{Position}
 use Rattle.art_plan.specs.Seen.{SiteFits, site_stamp}
+use Rattle.art_plan.specs.declared.sites.Site.{Site}
 use Rattle.art_step.specs.Knowledge.{CellAt, HoldsAll, IsShape}
 use Rattle.art_step.specs.Shows.{HasChild, Shows}
 use Rattle.art_step.specs.Views.{note_of, size_of}
@@ -32,6 +34,8 @@ use Rattle.art_tree.specs.Heaps.{Cells, heap_of}
 use Rattle.art_tree.specs.Tree.{StandsAt}
 use Rattle.art_tree.specs.WordChanges.{FitsWord}
 use Rattle.art_plan.proofs.ChildSites.{site_deep, site_fits, site_taken, stamp_in}
+use Rattle.art_plan.proofs.NewWords.{IsOtherRoot, IsSiteOf, site_of}
+use Rattle.art_plan.proofs.RootWords.{root_other}
 use Rattle.art_plan.proofs.SeenBodies.{child_fits}
 use Rattle.art_plan.proofs.WholeCells.{IsWhole, above_is, above_whole, node_whole, read_whole}
 
@@ -71,6 +75,16 @@ module _ (z : Sizes) (k : List ℕ) (t : Position) (read_set : ReadSet) (n : Nod
 
     above_names : HasChild old.0.tree a.stamp.cell (node n) (take a.depth k)
     above_names = shows old.0.view old.0.standing old.1 old.0.tree old.0.shape old.0.holds
+
+    -- where it is the anchor, the word that was read names the node, and no other cell
+    pub above_root : (d : Link) → node n ≢ d → IsOtherRoot a.stamp (above_of read_set) (child_word d)
+    above_root =
+        root_other z old.0.view a.stamp (above_of read_set) (whole old.0.view old.0.standing old.1) old.0.tree old.0.shape old.0.holds
+        (node n) (take a.depth k) above_names
+
+    pub above_site : (body : Bor Body) → IsFilled a.stamp.cell (above_of read_set) body.now → (site : Site)
+        → site ≡ site_in a.stamp body byte → IsSiteOf a.stamp (above_of read_set) site
+    above_site body = site_of z a.stamp (above_of read_set) (whole old.0.view old.0.standing old.1).stamp.inside body byte
 
     -- the two are different cells, and both were read whole
     module _ (known : AreKnown (node_of read_set) 1 (size_of t.stamp.cell)) (upper lower : Bor Body) (upper-filled : IsFilled a.stamp.cell (above_of read_set) upper.now)

@@ -1,5 +1,10 @@
 -- The tree is empty: the site in the anchor.
-use Rattle.std.proofs.Common.{◌≡◌, refl, subst}
+use Rattle.std.proofs.Common.{◌≡◌, ℕ, List, refl, subst}
+use Rattle.art_cell.specs.Children.{child_word}
+use Rattle.art_cell.specs.declared.cells.Cell.TheVariants as cell
+use Rattle.art_cell.specs.declared.cells.Link.{Link}
+use Rattle.art_plan.proofs.NewWords.{IsOtherRoot}
+use Rattle.art_plan.proofs.RootWords.{root_none}
 use Rattle.art_plan.specs.ChooseInsert.Seen.{IsSeen}
 use Rattle.art_find.specs.Verdicts.{Says}
 use Rattle.art_find.specs.declared.verdicts.Verdict.{Verdict}
@@ -25,3 +30,19 @@ root_knows z t read_set new u is seen standing hand =
       place = record { word = root.0; read = root.1; shows = λ s shape holds. (refl, says.1 s shape holds) };
       new_leaf = hand;
     }
+
+-- ---- the word that was read
+
+module _ (z : Sizes) (k : List ℕ) (t : Position) (read_set : ReadSet) (is : t.verdict ≡ Empty) (seen : IsSeen z k t read_set) where
+  says : Says z k t.depth t.stamp Empty seen.vouched.view
+  says = subst (λ (f : Verdict). Says z k t.depth t.stamp f seen.vouched.view) is seen.vouched.standing.says
+
+  pub root_at : t.stamp.cell ≡ cell.Anchor
+  root_at = says.0
+
+  -- names nothing
+  pub root_empty : (d : Link) → IsOtherRoot t.stamp (node_of read_set) (child_word d)
+  root_empty =
+      root_none z seen.vouched.view t.stamp (node_of read_set)
+      (node_whole z k t read_set seen.vouched.view seen.vouched.standing seen.whole) seen.vouched.tree seen.vouched.shape seen.vouched.holds
+      (says.1 seen.vouched.tree seen.vouched.shape seen.vouched.holds)

@@ -14,6 +14,8 @@ use Rattle.art_plan.specs.ChooseRemove.Plans.{HasFound}
 use Rattle.art_plan.specs.ChooseRemove.Seen.{IsSeen}
 use Rattle.art_plan.proofs.AboveSites.{below_there, named_fits}
 use Rattle.art_plan.proofs.ChildSites.{site_deep, site_fits, site_taken, slot_has, stamp_in}
+use Rattle.art_plan.proofs.NewWords.{IsOtherRoot, IsSiteOf, site_of}
+use Rattle.art_plan.proofs.RootWords.{root_some}
 use Rattle.art_plan.proofs.SeenBodies.{low_byte, seen_body, seen_child, stands, word_named}
 use Rattle.art_plan.proofs.WholeCells.{IsWhole, node_whole}
 use Rattle.art_plan.specs.ChooseInsert.Bodies.{IsFilled, site_in}
@@ -64,6 +66,16 @@ module _ (z : Sizes) (t : Position) (read_set : ReadSet) (old : OldLeaf) (is : H
 
     pub found_taken : (body : Bor Body) → IsFilled t.stamp.cell (node_of read_set) body.now → IsTaken (site_in t.stamp body last)
     found_taken = site_taken z seen.0.view t.stamp (node_of read_set) found_whole (leaf old.number) k t.depth seen.0.standing.deep (child seen.0.view seen.0.standing) seen.0.tree seen.0.shape seen.0.holds
+
+    -- in the anchor the word that was read names the leaf
+    pub found_root : IsOtherRoot t.stamp (node_of read_set) 0
+    found_root =
+        root_some z seen.0.view t.stamp (node_of read_set) found_whole seen.0.tree seen.0.shape seen.0.holds (leaf old.number)
+        (take t.depth k) found_there.child
+
+    pub found_site : (body : Bor Body) → IsFilled t.stamp.cell (node_of read_set) body.now → (site : Site)
+        → site ≡ site_in t.stamp body last → IsSiteOf t.stamp (node_of read_set) site
+    found_site body = site_of z t.stamp (node_of read_set) found_whole.stamp.inside body last
 
     -- in each tree that is as the stamp says the leaf has the key and the value
     pub found_leaf : (u : View) → IsStanding z k t read_set u → IsOldLeaf z u t.stamp old

@@ -1,5 +1,5 @@
 -- The node has no child at the key's next byte: the site of the byte, and whether the node is full.
-use Rattle.std.proofs.Common.{◌≡◌, ℕ, ◌+◌, ◌%◌, ◌<◌, Bool, true, false, cond, eqb, List, [], ◌∷◌, ◌++◌, length, get_or, take, Some, None, refl, sym, ap, ◌∙◌, subst, arith, add-one, take-suc, eq-eqb, eqb-true}
+use Rattle.std.proofs.Common.{◌≡◌, ◌≢◌, ℕ, ◌+◌, ◌%◌, ◌<◌, Bool, true, false, cond, eqb, List, [], ◌∷◌, ◌++◌, length, get_or, take, Some, None, refl, sym, ap, ◌∙◌, subst, arith, add-one, take-suc, eq-eqb, eqb-true}
 use Rattle.std.specs.Borrow.{Bor}
 use Rattle.art_cell.specs.Bodies.{IsBody, IsFull}
 use Rattle.art_cell.specs.Reads.{word_of}
@@ -87,6 +87,17 @@ pub needs_room : (n : Node) (header : ℕ) → (needs_of (NoChild n header)).abo
 needs_room n header above =
     let is = full_below (eqb (header % 512) (places n.layout)) n.layout above in
     (is.0, λ full. is.1 (eq-eqb (header % 512) (places n.layout) full))
+
+-- and that is another layout
+full_other : (full : Bool) (k : Layout) → (by_full full k).above ≡ true → larger k ≢ k
+full_other true Node4 e same = absurd (cc)
+full_other true Node16 e same = absurd (cc)
+full_other true Node48 e same = absurd (cc)
+full_other true Node256 e same = absurd (cc)
+full_other false k e same = absurd (cc)
+
+pub needs_other : (n : Node) (header : ℕ) → (needs_of (NoChild n header)).above ≡ true → larger n.layout ≢ n.layout
+needs_other n header = full_other (eqb (header % 512) (places n.layout)) n.layout
 
 -- ---- where it stands, and what was seen
 

@@ -1,5 +1,5 @@
 -- The node has no child at the key's next byte, and is full: what its growth needs.
-use Rattle.std.proofs.Common.{Bool, if◌then◌else◌, ◌≡◌, ℕ, ◌-◌, true, List, [], ◌∷◌, ◌++◌, get_or, take, Some, sym, ap, ◌∙◌, subst}
+use Rattle.std.proofs.Common.{Bool, if◌then◌else◌, ◌≡◌, ◌≢◌, ℕ, ◌-◌, true, List, [], ◌∷◌, ◌++◌, get_or, take, Some, sym, ap, ◌∙◌, subst}
 use Rattle.std.specs.Borrow.{Bor}
 use Rattle.art_cell.specs.Children.{child_word}
 use Rattle.art_cell.specs.Reads.{word_of}
@@ -35,7 +35,7 @@ use Rattle.art_tree.proofs.Places.{one_path}
 use Rattle.art_tree.specs.Heaps.{heap_of}
 use Rattle.art_tree.specs.Tree.{Begins}
 use Rattle.art_plan.proofs.AboveSites.{below_there, led_there}
-use Rattle.art_plan.proofs.FreeBytes.{free_inside, free_on, free_there, free_whole, needs_full}
+use Rattle.art_plan.proofs.FreeBytes.{free_inside, free_on, free_there, free_whole, needs_full, needs_other}
 use Rattle.art_plan.proofs.SeenBodies.{seen_prefix}
 
 module _ (z : Sizes) (t : Position) (read_set : ReadSet) (new : NewLeaf) (n : Node) (header made : ℕ) (is : t.verdict ≡ NoChild n header) (a : Above) (at : t.above ≡ Some a) (writes : (needs_of t.verdict).above ≡ true)
@@ -45,6 +45,13 @@ module _ (z : Sizes) (t : Position) (read_set : ReadSet) (new : NewLeaf) (n : No
 
   on : t.stamp.cell ≡ cell.Node n
   on = free_on z k t read_set n header is seen
+
+  -- the larger node is another
+  pub full_apart : (body : Body) → IsFilled t.stamp.cell (node_of read_set) body → node n ≢ node (larger_node body made)
+  full_apart body filled same =
+      let one : n ≡ larger_node body made = cc in
+      needs_other n header (sym (ap (λ (f : Verdict). (needs_of f).above) is) ∙ writes)
+      (ap larger (sym (filled n on).layout) ∙ sym (ap (λ (m : Node). m.layout) one))
 
   module _ (upper lower : Bor Body) (upper-filled : IsFilled a.stamp.cell (above_of read_set) upper.now) (lower-filled : IsFilled t.stamp.cell (node_of read_set) lower.now) where
     -- the bytes that lead to the node, with its prefix, are those up to the free one

@@ -1,5 +1,6 @@
 -- the crates below, for those above to name
 pub use Rattle.art_commit.proofs as ArtCommit
+mod AbovePuts
 pub mod AboveSites
 mod BesideWords
 mod BodyForms
@@ -22,6 +23,7 @@ mod MadeChanges
 mod MadeNodes
 mod MovedPuts
 pub mod NamedChildren
+mod NewWords
 mod OtherChildren
 mod OtherLeaves
 mod PrefixMismatches
@@ -38,6 +40,7 @@ mod PutWords
 mod ReadyCells
 pub mod Renewing
 mod RenewingBelow
+mod RootWords
 pub mod SeenBodies
 mod ShrunkNodes
 pub mod SiteWords

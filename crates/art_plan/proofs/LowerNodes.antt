@@ -82,6 +82,13 @@ module _ (z : Sizes) (t : Position) (read_set : ReadSet) (old : OldLeaf) (is : H
       let names = child_is s n byte ∙ child_named (child_of n.layout (s (cell.Node n))) byte (node m) pair.low_beside fits there in
       not_own_child z s seen.0.shape n m byte (path_past (heap_of s) n q byte) ((q, found_stands z t read_set old is seen n on body filled, refl), names) (sym same)
 
+  -- so it is another than the node
+  pub lower_other : (body : Body) → IsFilled t.stamp.cell (node_of read_set) body → (byte : ℕ) (m : Node)
+      → HasOther t read_set old byte (node m) → node n ≢ node m
+  lower_other body filled byte m other same =
+      let one : n ≡ m = cc in
+      lower_apart body filled byte m (other.pair body (filled other.node other.is)) (sym one)
+
 -- ---- the plan
 
 module _ (t : Position) (read_set : ReadSet) (old : OldLeaf) (a : Above) (at : t.above ≡ Some a) (upper : Bor Body) (upper-filled : IsFilled a.stamp.cell (above_of read_set) upper.now) (site : Site)

@@ -1,7 +1,9 @@
 -- Another leaf stands on the key's way: what a fork of both needs.
 use Rattle.std.proofs.Common.{◌≡◌, ◌≢◌, ℕ, ◌+◌, ◌-◌, ◌<◌, ◌≤◌, List, [], ◌∷◌, ◌++◌, length, get_or, take, sym, ap, subst, arith}
 use Rattle.std.specs.Borrow.{Bor}
+use Rattle.art_cell.specs.Children.{child_word}
 use Rattle.art_cell.specs.declared.bodies.Body.{Body}
+use Rattle.art_cell.specs.declared.cells.Link.{Link}
 use Rattle.art_cell.specs.declared.cells.Cell.TheVariants as cell
 use Rattle.art_cell.specs.declared.cells.Link.TheVariants.{Leaf as leaf}
 use Rattle.art_cell.specs.declared.cells.Node.{Node}
@@ -14,6 +16,9 @@ use Rattle.art_find.specs.Verdicts.{IsLeafMismatch, Says}
 use Rattle.art_find.specs.declared.verdicts.Verdict.{Verdict}
 use Rattle.art_find.specs.declared.verdicts.Verdict.TheVariants.{LeafMismatch}
 use Rattle.art_plan.proofs.MadeNodes.{key_small}
+use Rattle.art_plan.proofs.NewWords.{IsOtherRoot, IsSiteOf, site_of}
+use Rattle.art_plan.proofs.RootWords.{root_other}
+use Rattle.art_plan.specs.declared.sites.Site.{Site}
 use Rattle.art_plan.specs.Insert.Cases.{IsForkLeaf, IsInHand}
 use Rattle.art_plan.specs.Puts.{IsTaken}
 use Rattle.art_plan.specs.declared.insert.leaves.NewLeaf.{NewLeaf}
@@ -68,6 +73,16 @@ module _ (z : Sizes) (k : List ℕ) (t : Position) (read_set : ReadSet) (l at by
     pub leaf_taken : (body : Bor Body) → IsFilled t.stamp.cell (node_of read_set) body.now → IsTaken (site_in t.stamp body last)
     leaf_taken = site_taken z seen.vouched.view t.stamp (node_of read_set) whole (leaf l) k t.depth seen.vouched.standing.deep (child seen.vouched.view seen.vouched.standing)
         seen.vouched.tree seen.vouched.shape seen.vouched.holds
+
+    -- in the anchor the word that was read names the leaf, and no other cell
+    pub leaf_root : (d : Link) → leaf l ≢ d → IsOtherRoot t.stamp (node_of read_set) (child_word d)
+    leaf_root =
+        root_other z seen.vouched.view t.stamp (node_of read_set) whole seen.vouched.tree seen.vouched.shape seen.vouched.holds (leaf l)
+        (take t.depth k) there.child
+
+    pub leaf_site : (body : Bor Body) → IsFilled t.stamp.cell (node_of read_set) body.now → (site : Site)
+        → site ≡ site_in t.stamp body last → IsSiteOf t.stamp (node_of read_set) site
+    leaf_site body = site_of z t.stamp (node_of read_set) whole.stamp.inside body last
 
 -- ---- the plan
 

@@ -14,7 +14,7 @@ use Rattle.art_cell.specs.declared.cells.Node.{Node}
 use Rattle.art_cell.specs.declared.layouts.Layout.TheVariants.{Node4}
 use Rattle.art_plan.specs.ChooseInsert.Bodies.{IsFilled, site_in}
 use Rattle.art_plan.specs.ChooseInsert.Needs.{needs_of}
-use Rattle.art_plan.specs.ChooseInsert.Plans.{HasNeeded}
+use Rattle.art_plan.specs.ChooseInsert.Plans.{HasNeeded, MakesAnother}
 use Rattle.art_plan.specs.ChooseInsert.Seen.{IsSeen}
 use Rattle.art_find.specs.Ways.{count_in}
 use Rattle.art_find.specs.Verdicts.{IsPrefixMismatch, Says}
@@ -23,6 +23,7 @@ use Rattle.art_find.specs.declared.verdicts.Verdict.TheVariants.{PrefixMismatch}
 use Rattle.art_plan.proofs.MadeNodes.{key_small}
 use Rattle.art_plan.specs.Seen.{HasBelow}
 use Rattle.art_plan.specs.Insert.Cases.{IsForkPrefix, IsInHand}
+use Rattle.art_plan.specs.Insert.Puts.{node4}
 use Rattle.art_plan.specs.declared.insert.leaves.NewLeaf.{NewLeaf}
 use Rattle.art_path.proofs.PackedTexts.{same_packed}
 use Rattle.art_find.specs.ReadSets.{above_of, node_of}
@@ -119,6 +120,12 @@ module _ (z : Sizes) (t : Position) (read_set : ReadSet) (new : NewLeaf) (n : No
     (seen : IsSeen z new.key.items t read_set) where
   abbrev k : List ℕ
   k = new.key.items
+
+  -- the new node is another, where it is another cell
+  pub prefix_other : MakesAnother t made → node n ≢ node (node4 made)
+  prefix_other another same =
+      let one : n ≡ node4 made = cc in
+      another Node4 (ap (λ (f : Verdict). (needs_of f).node) is) (prefix_on z k t read_set n header at is seen ∙ ap cell.Node one)
 
   module _ (upper lower : Bor Body) (upper-filled : IsFilled a.stamp.cell (above_of read_set) upper.now) (lower-filled : IsFilled t.stamp.cell (node_of read_set) lower.now) where
     pub prefix_knows : (u : View) (site : Site) → site ≡ site_in a.stamp upper (get_or k (a.depth - 1) 0) → IsStanding z k t read_set u → IsInHand z u new → HasNeeded z u t.verdict made

@@ -1,14 +1,16 @@
 -- The node gives way to a smaller one: what that plan knows.
-use Rattle.std.proofs.Common.{◌≡◌, ℕ, ◌-◌, ◌<◌, get_or, Some, sym, subst}
+use Rattle.std.proofs.Common.{◌≡◌, ◌≢◌, ℕ, ◌-◌, ◌<◌, get_or, Some, refl, sym, ap, ◌∙◌, subst}
 use Rattle.std.specs.Borrow.{Bor}
 use Rattle.art_cell.specs.Children.{child_word}
 use Rattle.art_cell.specs.Reads.{word_of}
 use Rattle.art_cell.specs.Words.{child_of}
 use Rattle.art_cell.specs.declared.bodies.Body.{Body}
 use Rattle.art_cell.specs.declared.cells.Cell.TheVariants as cell
-use Rattle.art_cell.specs.declared.cells.Link.TheVariants.{Leaf as leaf}
+use Rattle.art_cell.specs.declared.cells.Link.TheVariants.{Leaf as leaf, Node as node}
 use Rattle.art_cell.specs.declared.cells.Node.{Node}
 use Rattle.art_cell.specs.declared.layouts.Layout.{Layout}
+use Rattle.art_cell.specs.declared.layouts.Layout.TheVariants.{Node4, Node16, Node48, Node256}
+use Rattle.art_node.specs.Sizes.{smaller}
 use Rattle.art_plan.proofs.FoundLeaves.{found_at, found_below, found_leaf, found_meaning}
 use Rattle.art_plan.proofs.LeftChildren.{gives_sparse, gives_to}
 use Rattle.art_plan.specs.ChooseRemove.Losses.{loss_at}
@@ -29,6 +31,13 @@ use Rattle.art_plan.specs.declared.remove.leaves.OldLeaf.{OldLeaf}
 use Rattle.art_step.specs.declared.views.Sizes.{Sizes}
 use Rattle.art_step.specs.declared.views.View.{View}
 
+-- the next smaller layout is another, but for the smallest
+smaller_other : (k : Layout) → k ≢ Node4 → smaller k ≢ k
+smaller_other Node4 other same = other refl
+smaller_other Node16 other same = absurd (cc)
+smaller_other Node48 other same = absurd (cc)
+smaller_other Node256 other same = absurd (cc)
+
 module _ (z : Sizes) (t : Position) (read_set : ReadSet) (old : OldLeaf) (is : HasFound t old) (m : Layout) (goes : loss_at t read_set ≡ Shrinks m) (n : Node) (on : t.stamp.cell ≡ cell.Node n) where
   abbrev last : ℕ
   last = get_or old.key.items (t.depth - 1) 0
@@ -39,6 +48,13 @@ module _ (z : Sizes) (t : Position) (read_set : ReadSet) (old : OldLeaf) (is : H
     child = child_word (leaf old.number);
     there = found_at z t read_set old is seen n on body filled;
   })
+
+  -- the smaller node is another
+  pub smaller_apart : IsSeen z old.key.items t read_set → (body : Body) → IsFilled t.stamp.cell (node_of read_set) body → (made : ℕ)
+      → node n ≢ node (smaller_node body made)
+  smaller_apart seen body filled made same =
+      let one : n ≡ smaller_node body made = cc in
+      smaller_other body.layout (node_sparse seen body filled).layout (sym (ap (λ (o : Node). o.layout) one) ∙ sym (filled n on).layout)
 
   module _ (a : Above) (at : t.above ≡ Some a) (upper lower : Bor Body) (upper-filled : IsFilled a.stamp.cell (above_of read_set) upper.now) (lower-filled : IsFilled t.stamp.cell (node_of read_set) lower.now)
       (made : ℕ) (site : Site) (named : site ≡ site_in a.stamp upper (get_or old.key.items (a.depth - 1) 0)) where

@@ -5,6 +5,7 @@ pub mod Changes
 pub mod ChooseInsert
 pub mod ChooseRemove
 pub mod Insert
+pub mod NewWords
 pub mod Puts
 pub mod Remove
 pub mod Renewing

@@ -27,6 +27,9 @@
 //! That the words of a target are those that were noted under its stamp is known only once it is locked, so `IsReady` speaks
 //! of the words that were found then, which agree with the notes (`IsLocked`).
 //!
+//! A store under a lock costs the passes that wait for it, so the planners put only words that change (`PutsChanges`,
+//! `specs/NewWords.antt`): another word was read at each place, and no place is put twice.
+//!
 //! # The parts
 //!
 //! A change is filled in place, part by part: `begin` empties it, and `lock`, `put`, `make` and `unlink` give it what it

@@ -1,5 +1,6 @@
 -- What the plan of an insert is, by where its key stands.
-use Rattle.std.specs.Prelude.{◌≡◌, ◌⊎◌, ℕ, true, Some, ⊤, List, [], ◌∷◌, if◌then◌else◌}
+use Rattle.std.specs.Prelude.{◌≡◌, ◌≢◌, ◌⊎◌, ℕ, true, Option, Some, ⊤, List, [], ◌∷◌, if◌then◌else◌}
+use Rattle.art_cell.specs.declared.cells.Cell.TheVariants as cell
 use Rattle.art_cell.specs.declared.layouts.Layout.{Layout}
 use Rattle.art_plan.specs.ArtCommit.CommitLaws.{HasNode}
 use Rattle.art_plan.specs.ChooseInsert.Needs.{needs_of}
@@ -9,6 +10,7 @@ use Rattle.art_find.specs.declared.verdicts.Verdict.TheVariants.{Empty, LeafMism
 use Rattle.art_plan.specs.Insert.Cases.{IsInHand}
 use Rattle.art_plan.specs.declared.insert.leaves.NewLeaf.{NewLeaf}
 use Rattle.art_find.specs.Findings.{IsStanding}
+use Rattle.art_find.specs.ReadSets.{above_of, node_of}
 use Rattle.art_find.specs.declared.read_sets.ReadSet.{ReadSet}
 use Rattle.art_find.specs.declared.findings.Above.{Above}
 use Rattle.art_find.specs.declared.findings.Position.{Position}
@@ -57,3 +59,15 @@ IsLockedAt t x = (x ≡ t.stamp) ⊎ ((a : Above) × (t.above ≡ Some a) × ((n
 -- each cell that the change locks is under such a stamp
 abbrev pub LocksOnly : (Stamp → Type 0) → Change → Type 0
 LocksOnly so c = (i : ℕ) (x : Target) → target_at c i ≡ Some x → so x.stamp
+
+-- ---- what was read of them
+
+-- these are the words that were read under the stamp: of the cell where the key stands, or of the cell above
+abbrev pub WasReadOf : Position → ReadSet → Stamp → List (Option ℕ) → Type 0
+WasReadOf t read_set x reads =
+    ((x ≡ t.stamp) × (reads ≡ node_of read_set)) ⊎ ((a : Above) × (t.above ≡ Some a) × (x ≡ a.stamp) × (reads ≡ above_of read_set))
+
+-- the node that is made, if one is, is another cell than the one where the key stands
+abbrev pub MakesAnother : Position → ℕ → Type 0
+MakesAnother t made = (layout : Layout) → (needs_of t.verdict).node ≡ Some layout
+    → t.stamp.cell ≢ cell.Node (record { layout = layout; number = made })

@@ -15,6 +15,7 @@ use Rattle.art_plan.specs.declared.choose_remove.losses.Loss.TheVariants.{Shrink
 use Rattle.art_plan.specs.declared.choose_remove.lowers.Lower.{Lower}
 use Rattle.art_plan.specs.ArtCommit.CommitLaws.{HasNode}
 use Rattle.art_plan.specs.ChooseInsert.Bodies.{HasWords}
+use Rattle.art_plan.specs.ChooseInsert.Plans.{WasReadOf}
 use Rattle.art_plan.specs.ArtFind.declared.verdicts.Verdict.TheVariants.{Found}
 use Rattle.art_path.specs.declared.prefixes.Parts.{Parts}
 use Rattle.art_plan.specs.ArtFind.ReadSets.{node_of}
@@ -93,6 +94,10 @@ pub record ArePartsOf (read_set : ReadSet) (lower : Lower) (reads : List (Option
   pub front : (w : Words) → Agrees (node_of read_set) w → parts.front.items ≡ prefix_of w
   pub byte : parts.byte ≡ lower.byte
   pub rest : (w : Words) → Agrees reads w → parts.rest.items ≡ prefix_of w
+
+-- these are the words that were read under the stamp: of the cell that names the leaf, of the cell above, or of the lower node
+abbrev pub WasReadOfAny : Position → ReadSet → Lower → List (Option ℕ) → Stamp → List (Option ℕ) → Type 0
+WasReadOfAny t read_set lower lower_reads x reads = WasReadOf t read_set x reads ⊎ ((x ≡ lower.stamp) × (reads ≡ lower_reads))
 
 -- the change is a plan for each pass that has seen both cells, and still knows where the leaf stands, and the lower node
 abbrev pub PlansMergeNode : Position → ReadSet → Lower → List (Option ℕ) → OldLeaf → Change → Type 0

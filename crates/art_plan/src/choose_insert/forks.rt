@@ -1,11 +1,12 @@
 //! The leaf comes beside what stands on the key's way: another leaf, or a node with another prefix.
 ghost use Rattle.std.specs.Prelude.{◌≡◌, ◌<◌, ℕ, Some, []};
 ghost use Rattle.art_cell.specs.declared.cells.Node.{Node as NodeOf};
-ghost use Rattle.art_plan.specs.ChooseInsert.Plans.{IsLockedAt, LocksOnly, PlansInsert};
+ghost use Rattle.art_plan.specs.ChooseInsert.Plans.{IsLockedAt, LocksOnly, MakesAnother, PlansInsert, WasReadOf};
 ghost use Rattle.art_plan.specs.ChooseInsert.Seen.{IsSeen};
 ghost use Rattle.art_find.specs.declared.verdicts.Verdict.TheVariants as verdicts;
 ghost use Rattle.art_plan.specs.Insert.Puts.{insert_effects};
 ghost use Rattle.art_plan.specs.Changes.{targets};
+ghost use Rattle.art_plan.specs.NewWords.{PutsChanges};
 ghost use Rattle.art_step.specs.declared.views.Sizes.{Sizes};
 
 use crate::choose_insert::Bodies;
@@ -30,6 +31,7 @@ pub(crate) fn beside_leaf(
     ensures targets { 0 < targets change.new }
     ensures locks { LocksOnly (IsLockedAt position.now) change.new }
     ensures effects { change.new.effects ≡ insert_effects new.now [] }
+    ensures changes { PutsChanges (WasReadOf position.now read_set.now) change.new }
 {
     let Verdict::LeafMismatch {
         leaf: other,
@@ -68,6 +70,7 @@ pub(crate) fn beside_node(
     ensures targets { 0 < targets change.new }
     ensures locks { LocksOnly (IsLockedAt position.now) change.new }
     ensures effects { change.new.effects ≡ insert_effects new.now [] }
+    ensures changes { MakesAnother position.now made → PutsChanges (WasReadOf position.now read_set.now) change.new }
 {
     let Verdict::PrefixMismatch { node, at, .. } = position.verdict else {
         unreachable!();

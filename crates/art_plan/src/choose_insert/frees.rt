@@ -2,12 +2,13 @@
 ghost use Rattle.std.specs.Prelude.{◌≡◌, ◌<◌, ℕ, true, false, Some, []};
 ghost use Rattle.art_cell.specs.declared.cells.Node.{Node as NodeOf};
 ghost use Rattle.art_plan.specs.ChooseInsert.Needs.{needs_of};
-ghost use Rattle.art_plan.specs.ChooseInsert.Plans.{IsLockedAt, LocksOnly, PlansInsert, gives_way};
+ghost use Rattle.art_plan.specs.ChooseInsert.Plans.{IsLockedAt, LocksOnly, PlansInsert, WasReadOf, gives_way};
 ghost use Rattle.art_plan.specs.ChooseInsert.Seen.{IsSeen};
 ghost use Rattle.art_find.specs.declared.verdicts.Verdict.TheVariants as verdicts;
 ghost use Rattle.art_plan.specs.Insert.Puts.{insert_effects};
 ghost use Rattle.art_find.specs.declared.read_sets.ReadSet.{ReadSet as ReadSetOf};
 ghost use Rattle.art_plan.specs.Changes.{targets};
+ghost use Rattle.art_plan.specs.NewWords.{PutsChanges};
 ghost use Rattle.art_step.specs.declared.views.Sizes.{Sizes};
 
 use crate::choose_insert::Bodies;
@@ -23,6 +24,8 @@ pub(crate) fn to_anchor(change: &mut Change, position: &Position, new: &NewLeaf)
     ensures targets { 0 < targets change.new }
     ensures locks { LocksOnly (IsLockedAt position.now) change.new }
     ensures effects { change.new.effects ≡ insert_effects new.now [] }
+    ensures changes { (z : Sizes) (read_set : ReadSetOf) → IsSeen z new.now.key.items position.now read_set →
+        PutsChanges (WasReadOf position.now read_set) change.new }
 {
     add(change, &Site::Root(position.stamp), new);
 }
@@ -42,6 +45,7 @@ pub(crate) fn to_byte(
     ensures targets { 0 < targets change.new }
     ensures locks { LocksOnly (IsLockedAt position.now) change.new }
     ensures effects { change.new.effects ≡ insert_effects new.now [] }
+    ensures changes { PutsChanges (WasReadOf position.now read_set.now) change.new }
 {
     fill(&mut bodies.node, position.stamp.cell, read_set.node());
     let key = new.key.as_slice();
@@ -65,6 +69,7 @@ pub(crate) fn to_larger(
     ensures targets { 0 < targets change.new }
     ensures locks { LocksOnly (IsLockedAt position.now) change.new }
     ensures effects { change.new.effects ≡ insert_effects new.now (gives_way position.now.verdict) }
+    ensures changes { PutsChanges (WasReadOf position.now read_set.now) change.new }
 {
     let Verdict::NoChild { node, .. } = position.verdict else {
         unreachable!();

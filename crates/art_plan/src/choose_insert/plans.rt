@@ -1,9 +1,10 @@
 //! The plan of an insert.
 ghost use Rattle.std.specs.Prelude.{◌≡◌, ◌<◌, Some};
-ghost use Rattle.art_plan.specs.ChooseInsert.Plans.{Comes, IsLockedAt, LocksOnly, PlansInsert, gives_way};
+ghost use Rattle.art_plan.specs.ChooseInsert.Plans.{Comes, IsLockedAt, LocksOnly, MakesAnother, PlansInsert, WasReadOf, gives_way};
 ghost use Rattle.art_plan.specs.ChooseInsert.Seen.{IsSeen};
 ghost use Rattle.art_plan.specs.Insert.Puts.{insert_effects};
 ghost use Rattle.art_plan.specs.Changes.{targets};
+ghost use Rattle.art_plan.specs.NewWords.{PutsChanges};
 ghost use Rattle.art_step.specs.declared.views.Sizes.{Sizes};
 
 use crate::Change;
@@ -29,6 +30,7 @@ pub fn plan_insert(
     ensures targets { 0 < targets change.new }
     ensures locks { LocksOnly (IsLockedAt position.now) change.new }
     ensures effects { change.new.effects ≡ insert_effects new.now (gives_way position.now.verdict) }
+    ensures changes { MakesAnother position.now made → PutsChanges (WasReadOf position.now read_set.now) change.new }
 {
     match position.verdict {
         Verdict::Empty => to_anchor(change, position, new),

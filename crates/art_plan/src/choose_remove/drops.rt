@@ -4,8 +4,9 @@ ghost use Rattle.art_plan.specs.ChooseRemove.Losses.{loss_at};
 ghost use Rattle.art_plan.specs.ChooseRemove.Plans.{HasFound, IsNodeAt, PlansDrop};
 ghost use Rattle.art_plan.specs.ChooseRemove.Seen.{IsSeen};
 ghost use Rattle.art_plan.specs.declared.choose_remove.losses.Loss.TheVariants as losses;
-ghost use Rattle.art_plan.specs.ChooseInsert.Plans.{LocksOnly};
+ghost use Rattle.art_plan.specs.ChooseInsert.Plans.{LocksOnly, WasReadOf};
 ghost use Rattle.art_plan.specs.Changes.{targets};
+ghost use Rattle.art_plan.specs.NewWords.{PutsChanges};
 ghost use Rattle.art_plan.specs.Remove.Removals.{remove_effects};
 ghost use Rattle.art_step.specs.declared.views.Sizes.{Sizes};
 
@@ -30,6 +31,7 @@ pub fn plan_drop(
     ensures targets { targets change.new ≡ 1 }
     ensures locks { LocksOnly (IsNodeAt position.now) change.new }
     ensures effects { change.new.effects ≡ remove_effects old.now [] }
+    ensures changes { PutsChanges (WasReadOf position.now read_set.now) change.new }
 {
     fill(&mut bodies.node, position.stamp.cell, read_set.node());
     let site = site_at(

@@ -2,11 +2,13 @@
 ghost use Rattle.std.specs.Prelude.{◌≡◌, ◌≢◌, None, true, false};
 ghost use Rattle.art_cell.specs.Leaves.{prefix_read};
 ghost use Rattle.art_cell.specs.declared.cells.Link.TheVariants.{Node as node_link};
-ghost use Rattle.art_plan.specs.ChooseRemove.Plans.{ArePartsOf, HasFound, HasOther, IsAnyAt, MayNotMerge, PlansMergeNode, node_words};
+ghost use Rattle.art_plan.specs.ChooseRemove.Plans.{ArePartsOf, HasFound, HasOther, IsAnyAt, MayNotMerge, PlansMergeNode};
+ghost use Rattle.art_plan.specs.ChooseRemove.Plans.{WasReadOfAny, node_words};
 ghost use Rattle.art_plan.specs.ChooseRemove.Seen.{AreSeen, IsLowerSeen};
 ghost use Rattle.art_plan.specs.ChooseInsert.Plans.{LocksOnly};
 ghost use Rattle.art_plan.specs.ArtFind.ReadSets.{node_of};
 ghost use Rattle.art_plan.specs.Changes.{targets};
+ghost use Rattle.art_plan.specs.NewWords.{PutsChanges};
 ghost use Rattle.art_plan.specs.Remove.Removals.{removed, remove_effects};
 ghost use Rattle.art_step.specs.declared.views.Sizes.{Sizes};
 
@@ -52,6 +54,7 @@ pub fn plan_merge_node(
     ensures leaf { change.new.effects.leaf ≡ None }
     ensures effects { result ≡ true → change.new.effects ≡ remove_effects old.now (node_words position.now.stamp.cell) }
     ensures refused { result ≡ false → MayNotMerge position.now read_set.now lower.now reads.now }
+    ensures changes { result ≡ true → PutsChanges (WasReadOfAny position.now read_set.now lower.now reads.now) change.new }
 {
     let Cell::Node(node) = position.stamp.cell else {
         unreachable!();

@@ -5,8 +5,9 @@ ghost use Rattle.art_plan.specs.ChooseRemove.Losses.{loss_at};
 ghost use Rattle.art_plan.specs.ChooseRemove.Plans.{HasFound, IsEitherAt, PlansShrink, node_words};
 ghost use Rattle.art_plan.specs.ChooseRemove.Seen.{AreSeen};
 ghost use Rattle.art_plan.specs.declared.choose_remove.losses.Loss.TheVariants as losses;
-ghost use Rattle.art_plan.specs.ChooseInsert.Plans.{LocksOnly};
+ghost use Rattle.art_plan.specs.ChooseInsert.Plans.{LocksOnly, WasReadOf};
 ghost use Rattle.art_plan.specs.Changes.{targets};
+ghost use Rattle.art_plan.specs.NewWords.{PutsChanges};
 ghost use Rattle.art_plan.specs.Remove.Removals.{remove_effects};
 ghost use Rattle.art_step.specs.declared.views.Sizes.{Sizes};
 
@@ -33,6 +34,7 @@ pub fn plan_shrink(
     ensures targets { targets change.new ≡ 2 }
     ensures locks { LocksOnly (IsEitherAt position.now) change.new }
     ensures effects { change.new.effects ≡ remove_effects old.now (node_words position.now.stamp.cell) }
+    ensures changes { PutsChanges (WasReadOf position.now read_set.now) change.new }
 {
     let Cell::Node(node) = position.stamp.cell else {
         unreachable!();

@@ -1,10 +1,12 @@
 //! A node comes between a site and what stands there.
-ghost use Rattle.std.specs.Prelude.{◌≡◌, ◌≢◌, ◌+◌, ◌<◌, ◌≤◌, ◌∷◌, [], length, slice_index, Some};
+ghost use Rattle.std.specs.Prelude.{◌≡◌, ◌≢◌, ◌+◌, ◌<◌, ◌≤◌, ◌∷◌, [], drop, length, slice_index, Some};
 ghost use Rattle.art_cell.specs.Bodies.{IsBody};
+ghost use Rattle.art_cell.specs.declared.cells.Link.TheVariants.{Node as node};
 ghost use Rattle.art_cell.specs.Reads.{word_of};
 ghost use Rattle.art_plan.specs.Insert.Cases.{IsForkLeaf, IsForkPrefix};
-ghost use Rattle.art_plan.specs.Insert.Puts.{insert_effects};
+ghost use Rattle.art_plan.specs.Insert.Puts.{insert_effects, node4};
 ghost use Rattle.art_plan.specs.Changes.{IsPlanned, targets};
+ghost use Rattle.art_plan.specs.NewWords.{PutsChild, PutsPrefix};
 ghost use Rattle.art_plan.specs.Puts.{IsTaken};
 ghost use Rattle.art_plan.specs.Seen.{kept, site_stamp};
 ghost use Rattle.art_step.specs.declared.views.Sizes.{Sizes};
@@ -34,6 +36,7 @@ pub fn fork_leaf(
     ensures targets { targets change.new ≡ 1 }
     ensures locks { change.new.targets.items ≡ kept (site_stamp site.now) ∷ [] }
     ensures effects { change.new.effects ≡ insert_effects new.now [] }
+    ensures puts { PutsChild site.now (node (node4 made)) change.new.puts.items }
 {
     let key = new.key.as_slice();
     let at = parting.depth + parting.common;
@@ -80,6 +83,8 @@ pub fn fork_prefix(
     ensures targets { targets change.new ≡ 2 }
     ensures locks { change.new.targets.items ≡ kept (site_stamp site.now) ∷ kept below.now.stamp ∷ [] }
     ensures effects { change.new.effects ≡ insert_effects new.now [] }
+    ensures puts { PutsPrefix site.now (node (node4 made)) 1 below.now.body.now (drop (parting.common + 1) prefix.now)
+        change.new.puts.items }
 {
     let parts = split(prefix, parting.common);
     let key = new.key.as_slice();

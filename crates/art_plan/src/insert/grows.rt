@@ -3,11 +3,13 @@ ghost use Rattle.std.specs.Prelude.{◌≡◌, ◌<◌, ◌∷◌, ℕ, [], None
 ghost use Rattle.art_cell.specs.Bodies.{Becomes, IsFull};
 ghost use Rattle.art_cell.specs.Reads.{IsBodyOf, with_child, word_of};
 ghost use Rattle.art_cell.specs.Words.{child_of, prefix_of};
+ghost use Rattle.art_cell.specs.declared.cells.Link.TheVariants.{Node as node};
 ghost use Rattle.art_plan.specs.Insert.Cases.{IsGrow};
 ghost use Rattle.art_plan.specs.Insert.Puts.{larger_node, insert_effects};
 ghost use Rattle.art_node.specs.Prefixes.{IsNodeOf};
 ghost use Rattle.art_node.specs.Sizes.{larger};
 ghost use Rattle.art_plan.specs.Changes.{IsPlanned, targets};
+ghost use Rattle.art_plan.specs.NewWords.{PutsChild};
 ghost use Rattle.art_plan.specs.Puts.{IsCrowded, IsTaken};
 ghost use Rattle.art_plan.specs.Seen.{gone, kept, site_stamp, word_below};
 ghost use Rattle.art_step.specs.declared.views.Sizes.{Sizes};
@@ -31,6 +33,7 @@ pub fn grow(change: &mut Change, site: &Site, below: &Below, byte: u8, new: &New
     ensures targets { targets change.new ≡ 2 }
     ensures locks { change.new.targets.items ≡ kept (site_stamp site.now) ∷ gone below.now.stamp ∷ [] }
     ensures effects { change.new.effects ≡ insert_effects new.now (word_below below.now ∷ []) }
+    ensures puts { PutsChild site.now (node (larger_node below.now.body.now made)) change.new.puts.items }
 {
     let new_leaf = child_word(Link::Leaf(new.number));
     grown(below.body, byte, new_leaf, &mut change.body);

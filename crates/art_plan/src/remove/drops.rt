@@ -1,6 +1,7 @@
 //! A leaf goes, and its place stays free.
 ghost use Rattle.std.specs.Prelude.{◌≡◌, ◌∷◌, ℕ, [], None};
 ghost use Rattle.art_plan.specs.Changes.{IsPlanned, targets};
+ghost use Rattle.art_plan.specs.NewWords.{PutsNone};
 ghost use Rattle.art_plan.specs.Puts.{IsTaken};
 ghost use Rattle.art_plan.specs.Seen.{kept, site_stamp};
 ghost use Rattle.art_plan.specs.Remove.Cases.{IsDrop};
@@ -21,6 +22,7 @@ pub fn drop(change: &mut Change, site: &Site, old: &OldLeaf)
     ensures targets { targets change.new ≡ 1 }
     ensures locks { change.new.targets.items ≡ kept (site_stamp site.now) ∷ [] }
     ensures effects { change.new.effects ≡ remove_effects old.now [] }
+    ensures puts { PutsNone site.now change.new.puts.items }
 {
     let old_leaf = child_word(Link::Leaf(old.number));
     dropped(site, &mut change.writes);

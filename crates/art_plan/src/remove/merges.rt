@@ -2,11 +2,13 @@
 ghost use Rattle.std.specs.Prelude.{◌≡◌, ◌∷◌, ℕ, [], None, true, false};
 ghost use Rattle.art_cell.specs.Bodies.{IsBody};
 ghost use Rattle.art_cell.specs.Reads.{word_of};
+ghost use Rattle.art_cell.specs.declared.cells.Link.TheVariants.{Leaf as leaf, Node as node};
 ghost use Rattle.art_plan.specs.Changes.{IsPlanned, targets};
+ghost use Rattle.art_plan.specs.NewWords.{PutsChild, PutsPrefix};
 ghost use Rattle.art_plan.specs.Puts.{IsTaken};
 ghost use Rattle.art_plan.specs.Seen.{gone, kept, site_stamp, word_below};
 ghost use Rattle.art_plan.specs.Remove.Cases.{IsMergeLeaf, IsMergeNode};
-ghost use Rattle.art_plan.specs.Remove.Removals.{IsTooLong, removed, remove_effects};
+ghost use Rattle.art_plan.specs.Remove.Removals.{IsTooLong, joined, removed, remove_effects};
 ghost use Rattle.art_step.specs.declared.views.Sizes.{Sizes};
 ghost use Rattle.art_step.specs.declared.views.View.{View};
 
@@ -24,6 +26,7 @@ pub fn merge_leaf(change: &mut Change, site: &Site, below: &Below, other: u32, o
     ensures targets { targets change.new ≡ 2 }
     ensures locks { change.new.targets.items ≡ kept (site_stamp site.now) ∷ gone below.now.stamp ∷ [] }
     ensures effects { change.new.effects ≡ remove_effects old.now (word_below below.now ∷ []) }
+    ensures puts { PutsChild site.now (leaf other) change.new.puts.items }
 {
     let old_leaf = child_word(Link::Leaf(old.number));
     let old_node = child_word(Link::Node(below.node));
@@ -57,6 +60,8 @@ pub fn merge_node(
     ensures leaf { change.new.effects.leaf ≡ None }
     ensures effects { result ≡ true → change.new.effects ≡ remove_effects old.now (word_below below.now ∷ []) }
     ensures refused { result ≡ false → IsTooLong parts.now }
+    ensures puts { result ≡ true →
+        PutsPrefix site.now (node lower.now.node) 2 lower.now.body.now (joined parts.now) change.new.puts.items }
 {
     begin(change, old);
     if parts.front.len() + 1 + parts.rest.len() > 64 {

@@ -3,9 +3,11 @@ ghost use Rattle.std.specs.Prelude.{◌≡◌, ◌∷◌, ℕ, [], Some, None};
 ghost use Rattle.art_cell.specs.Bodies.{Becomes, IsBody};
 ghost use Rattle.art_cell.specs.Reads.{IsBodyOf, without_child, word_of};
 ghost use Rattle.art_cell.specs.Words.{child_of, prefix_of};
+ghost use Rattle.art_cell.specs.declared.cells.Link.TheVariants.{Node as node};
 ghost use Rattle.art_node.specs.Prefixes.{IsNodeOf};
 ghost use Rattle.art_node.specs.Sizes.{smaller};
 ghost use Rattle.art_plan.specs.Changes.{IsPlanned, targets};
+ghost use Rattle.art_plan.specs.NewWords.{PutsChild};
 ghost use Rattle.art_plan.specs.Puts.{HasChild, IsTaken};
 ghost use Rattle.art_plan.specs.Seen.{gone, kept, site_stamp, word_below};
 ghost use Rattle.art_plan.specs.Remove.Cases.{IsShrink};
@@ -31,6 +33,7 @@ pub fn shrink(change: &mut Change, site: &Site, below: &Below, byte: u8, old: &O
     ensures targets { targets change.new ≡ 2 }
     ensures locks { change.new.targets.items ≡ kept (site_stamp site.now) ∷ gone below.now.stamp ∷ [] }
     ensures effects { change.new.effects ≡ remove_effects old.now (word_below below.now ∷ []) }
+    ensures puts { PutsChild site.now (node (smaller_node below.now.body.now made)) change.new.puts.items }
 {
     shrunk(below.body, byte, &mut change.body);
     let new_node = child_word(Link::Node(Node {

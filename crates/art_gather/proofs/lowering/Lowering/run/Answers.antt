@@ -1,5 +1,5 @@
 -- Each step is asked for, made and told.
-use Rattle.std.proofs.Common.{◌≡◌, ◌∙◌, ℕ, List, None, inl, refl, sym, subst}
+use Rattle.std.proofs.Common.{◌≡◌, ◌∙◌, ℕ, List, None, inl, refl, sym, subst, arith}
 use Rattle.std.specs.Prelude.{⊤}
 use Rattle.art_cell.specs.declared.cells.Node.{Node}
 use Rattle.art_find.specs.Asking.{MayLook}
@@ -62,10 +62,11 @@ loop-left-preserved g c =
     let is = sym c.next.ensures.asks ∙ c.in-Some.is in
     let on : (k : List ℕ) (n : Node) (u : View) → Fits z k p n m l.read_set l.lower u v → Fits z k p n c.told.new.self c.told.new.read_set c.told.new.lower u w = λ k n u fits.
     c.told.ensures.fits z k n some_deed u v w a fits is (row some_deed) in
+    let more = c.loop-left-test.true in
     record {
       only = g.met.S.Steps.only_then s t c.look.new.steps i.only c.look.ensures.only;
       sizes = g.met.S.Steps.only_sizes t c.look.new.steps c.look.ensures.only ∙ i.sizes;
-      turns = spends_one (g.S.Steps.view s) v w c.args.left.now l.left i.turns (look_steps z a r v w (lowering_looks p m a is) row) c.loop-left-test.true;
+      turns = spends_one (g.S.Steps.view s) v w c.args.left.now l.left i.turns (look_steps z a r v w (lowering_looks p m a is) row) (omega (arith, more));
       node = c.told.ensures.node ∙ i.node;
       here = (i.here.0, i.here.1, i.here.2, on i.here.0 i.here.1 i.here.2 i.here.3);
       fits = λ k n u fits. on k n u (i.fits k n u fits);

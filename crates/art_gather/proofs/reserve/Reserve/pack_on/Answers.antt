@@ -1,5 +1,5 @@
 -- The steps are those of the machine.
-use Rattle.std.proofs.Common.{◌≡◌, ◌≢◌, ◌∙◌, None, Some, sym, subst, arith}
+use Rattle.std.proofs.Common.{◌≢◌, ◌∙◌, None, sym, subst, arith}
 use Rattle.std.proofs.lemmas.Bool.{eqb-false}
 use Rattle.art_gather.proofs.Spending.{spends_none, spends_one}
 use Rattle.art_gather.proofs.Supplies.{asks_next, asks_word, next_row, one_written, packed_next}

@@ -1,5 +1,5 @@
 -- The reads come first, and what is left is asked for step by step.
-use Rattle.std.proofs.Common.{◌≡◌, ◌∙◌, ℕ, List, Option, None, Some, inl, inr, sym, subst, arith}
+use Rattle.std.proofs.Common.{◌≡◌, ◌∙◌, ℕ, List, Option, None, inl, sym, subst, arith}
 use Rattle.std.specs.Prelude.{⊤}
 use Rattle.art_find.specs.Asking.{MayLook}
 use Rattle.art_find.specs.Rereadings.{AreKnown}
@@ -70,10 +70,11 @@ loop-left-preserved g c =
     let on : (k : List ℕ) (u : View) → Fits z k both p m c.loop-left.read_set u v → Fits z k both p c.told.new.self c.told.new.read_set u w = λ k u fits.
     c.told.ensures.fits z k some_deed u v w a fits is (row some_deed) in
     let stays = look_stays z a r v w looks row in
+    let more = c.loop-left-test.true in
     record {
       only = g.met.S.Steps.only_then s t c.look.new.steps i.only c.look.ensures.only;
       sizes = g.met.S.Steps.only_sizes t c.look.new.steps c.look.ensures.only ∙ i.sizes;
-      turns = spends_one (g.S.Steps.view s) v w c.args.left.now c.loop-left.left i.turns (look_steps z a r v w looks row) c.loop-left-test.true;
+      turns = spends_one (g.S.Steps.view s) v w c.args.left.now c.loop-left.left i.turns (look_steps z a r v w looks row) (omega (arith, more));
       found = λ x there. stays x (i.found x there);
       stays = λ place word known. c.told.ensures.stays place word (i.stays place word known);
       node = λ known.

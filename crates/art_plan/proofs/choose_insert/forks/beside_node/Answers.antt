@@ -1,17 +1,25 @@
-use Rattle.std.proofs.Common.{◌≡◌, ◌∙◌, ℕ, List, Option, subst, sym, ap, inl, inr, refl}
+use Rattle.std.proofs.Common.{◌≡◌, ◌∙◌, ℕ, List, [], ◌∷◌, Option, subst, sym, ap, arith, inl, inr, refl}
+use Rattle.std.specs.List.{slice_get}
+use Rattle.art_cell.specs.declared.cells.Cell.{Cell}
+use Rattle.art_cell.specs.declared.cells.Link.TheVariants.{Node as node}
+use Rattle.art_find.specs.Rereadings.{AreKnown}
+use Rattle.art_plan.proofs.AbovePuts.{above_prefix}
 use Rattle.art_cell.specs.Leaves.{prefix_read}
 use Rattle.art_cell.specs.Reads.{Agrees, word_of}
 use Rattle.art_cell.specs.Words.{prefix_of}
 use Rattle.art_plan.proofs.AboveSites.{above_deep, above_taken}
 use Rattle.art_plan.proofs.ChildSites.{site_named, stamp_in}
 use Rattle.art_plan.proofs.LockedCells.{two_locked}
-use Rattle.art_plan.proofs.PrefixMismatches.{prefix_apart, prefix_inside, prefix_knows, prefix_meaning, prefix_on, prefix_there, prefix_within, prefix_writes}
+use Rattle.art_plan.proofs.PrefixMismatches.{prefix_apart, prefix_inside, prefix_knows, prefix_meaning, prefix_on, prefix_other, prefix_there, prefix_within, prefix_writes}
 use Rattle.art_plan.proofs.WholeCells.{above_kept, filled_agrees, kept_within}
 use Rattle.art_plan.specs.ChooseInsert.Bodies.{AreWithin, IsFilled}
-use Rattle.art_plan.specs.ChooseInsert.Plans.{IsLockedAt}
+use Rattle.art_plan.specs.ChooseInsert.Plans.{IsLockedAt, WasReadOf}
 use Rattle.art_find.specs.ReadSets.{above_of, node_of}
 use Rattle.art_plan.specs.Puts.{IsTaken}
+use Rattle.art_plan.specs.Insert.Puts.{node4}
 use Rattle.art_plan.specs.Seen.{kept, site_stamp}
+use Rattle.art_plan.specs.declared.changes.Target.{Target}
+use Rattle.art_step.specs.Views.{size_of}
 use Rattle.art_plan.proofs.choose_insert.forks.beside_node.Goals as goal
 use Rattle.art_plan.proofs.choose_insert.forks.beside_node.Goals.{After-as_slice-2}
 
@@ -121,3 +129,27 @@ returns-clause-locks c =
     let upper : site_stamp c.site_at-site.result ≡ a.stamp = ap site_stamp c.site_at-site.ensures.site ∙ stamp_in a.stamp _ _ in
     let writes = prefix_writes c.requires.seen.0 c.args.new.now.key.items t c.args.read_set.now c.in-PrefixMismatch.node c.in-PrefixMismatch.header c.in-PrefixMismatch.at c.in-PrefixMismatch.is in
     two_locked (IsLockedAt t) c.fork_prefix.new.change (kept (site_stamp c.site_at-site.result)) (inr (a, c.in-Some.is, writes, upper)) (kept t.stamp) (inl refl) (c.fork_prefix.ensures.locks)
+
+-- ---- the words that are put
+
+pub returns-clause-changes : goal.returns-clause-changes
+returns-clause-changes c = λ another.
+    let after = (goal.at.returns-clause-changes c).After-as_slice-2 in
+    let z = c.requires.seen.0 in
+    let t = c.args.position.now in
+    let a = c.in-Some.above in
+    let new = c.args.new.now in
+    let read_set = c.args.read_set.now in
+    let m = c.in-PrefixMismatch in
+    let seen = c.requires.seen.1 in
+    let site = c.site_at-site.result in
+    let is = site_named a.stamp _ c.as_slice.result.now new.key.items a.depth site c.site_at-site.ensures.site c.as_slice.ensures.value in
+    let on = prefix_on z new.key.items t read_set m.node m.header m.at m.is seen in
+    above_prefix z new.key.items t read_set m.node on a c.in-Some.is
+    (seen.above a c.in-Some.is (prefix_writes z new.key.items t read_set m.node m.header m.at m.is)) _ (upper_filled after) site is
+    (WasReadOf t read_set) (inr (a, c.in-Some.is, refl, refl)) c.fork_prefix.new.change (kept t.stamp ∷ []) c.fork_prefix.ensures.locks
+    (node (node4 c.args.made))
+    (prefix_other z t read_set new m.node m.header m.at c.args.made m.is a c.in-Some.is seen another)
+    m.node c.fill.new.body (node_of read_set) (lower_filled after m.node on)
+    (subst (λ (o : Cell). AreKnown (node_of read_set) 1 (size_of o)) on seen.whole) (kept t.stamp) (inl (refl, refl))
+    1 (omega arith) (ap (λ (ts : List Target). slice_get ts 1) c.fork_prefix.ensures.locks) _ c.fork_prefix.ensures.puts

@@ -1,9 +1,12 @@
-use Rattle.std.proofs.Common.{◌<◌, ◌+◌, ℕ, List, Option, get_or, subst, sym, ap, inl}
-use Rattle.art_plan.proofs.FreeBytes.{byte_knows, byte_room, slot_named}
+use Rattle.std.proofs.Common.{◌≡◌, ◌<◌, ◌+◌, ◌∙◌, ℕ, List, [], Option, get_or, subst, sym, ap, inl, refl}
+use Rattle.art_cell.specs.declared.cells.Cell.TheVariants as cell
+use Rattle.art_cell.specs.declared.cells.Link.TheVariants.{Leaf as leaf}
+use Rattle.art_plan.proofs.FreeBytes.{byte_knows, byte_room, free_on, slot_named}
 use Rattle.art_plan.proofs.LockedCells.{one_locked}
+use Rattle.art_plan.proofs.NewWords.{IsSiteOf, child_puts}
 use Rattle.art_plan.proofs.WholeCells.{kept_within}
 use Rattle.art_plan.specs.ChooseInsert.Bodies.{AreWithin, IsFilled}
-use Rattle.art_plan.specs.ChooseInsert.Plans.{IsLockedAt}
+use Rattle.art_plan.specs.ChooseInsert.Plans.{IsLockedAt, WasReadOf}
 use Rattle.art_plan.specs.Insert.Cases.{IsAdd}
 use Rattle.art_find.specs.ReadSets.{node_of}
 use Rattle.art_plan.specs.Puts.{IsFree}
@@ -38,3 +41,18 @@ fill-requires c =
 pub returns-clause-locks : goal.returns-clause-locks
 returns-clause-locks c =
     one_locked (IsLockedAt c.args.position.now) c.add.new.change (kept (site_stamp c.slot_at-site.result)) (inl (ap site_stamp c.slot_at-site.ensures.slot)) (c.add.ensures.locks)
+
+pub returns-clause-changes : goal.returns-clause-changes
+returns-clause-changes c =
+    let t = c.args.position.now in
+    let key = c.args.new.now.key.items in
+    let read_set = c.args.read_set.now in
+    let n = c.requires.free.0 in
+    let site = c.slot_at-site.result in
+    let seen = c.requires.seen.1 in
+    let on = free_on c.requires.seen.0 key t read_set n c.requires.free.1 c.requires.free.2 seen in
+    let filled = subst (λ (reads : List (Option ℕ)). IsFilled t.stamp.cell reads c.fill.new.body) c.node.ensures c.fill.ensures in
+    child_puts (WasReadOf t read_set) c.add.new.change (kept (site_stamp site)) [] c.add.ensures.locks t.stamp (node_of read_set)
+    (inl (ap site_stamp c.slot_at-site.ensures.slot, refl)) seen.whole site
+    (subst (IsSiteOf t.stamp (node_of read_set)) (sym c.slot_at-site.ensures.slot) (n, on, filled n on))
+    (leaf c.args.new.now.number) (λ at. let no : cell.Anchor ≡ cell.Node n = sym at ∙ on in absurd (cc)) c.add.ensures.puts

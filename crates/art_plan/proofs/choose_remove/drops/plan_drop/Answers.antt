@@ -1,9 +1,11 @@
-use Rattle.std.proofs.Common.{◌<◌, ◌-◌, ◌≡◌, ◌∙◌, ℕ, List, Option, get_or, subst, sym, ap}
-use Rattle.art_plan.proofs.FoundLeaves.{drop_knows, found_deep, found_taken}
+use Rattle.std.proofs.Common.{◌<◌, ◌-◌, ◌≡◌, ◌∙◌, ℕ, List, [], Option, get_or, subst, sym, ap, inl, refl}
+use Rattle.art_plan.proofs.FoundLeaves.{drop_knows, found_deep, found_root, found_site, found_taken}
 use Rattle.art_plan.proofs.LeftChildren.{keeps_two}
 use Rattle.art_plan.specs.ChooseRemove.Plans.{IsNodeAt}
 use Rattle.art_plan.proofs.ChildSites.{site_named, stamp_in}
 use Rattle.art_plan.proofs.LockedCells.{one_locked}
+use Rattle.art_plan.proofs.NewWords.{none_puts}
+use Rattle.art_plan.specs.ChooseInsert.Plans.{WasReadOf}
 use Rattle.art_plan.proofs.WholeCells.{kept_within}
 use Rattle.art_plan.specs.ChooseInsert.Bodies.{AreWithin, IsFilled}
 use Rattle.art_plan.specs.ArtFind.ReadSets.{node_of}
@@ -50,3 +52,19 @@ returns-clause-locks c =
     let t = c.args.position.now in
     let upper : site_stamp c.site_at-site.result ≡ t.stamp = ap site_stamp c.site_at-site.ensures.site ∙ stamp_in t.stamp _ _ in
     one_locked (IsNodeAt t) c.drop.new.change (kept (site_stamp c.site_at-site.result)) upper (c.drop.ensures.locks)
+
+pub returns-clause-changes : goal.returns-clause-changes
+returns-clause-changes c =
+    let z = c.requires.seen.0 in
+    let t = c.args.position.now in
+    let old = c.args.old.now in
+    let read_set = c.args.read_set.now in
+    let seen = c.requires.seen.1 in
+    let site = c.site_at-site.result in
+    let is = site_named t.stamp _ c.as_slice.result.now old.key.items t.depth site c.site_at-site.ensures.site c.as_slice.ensures.value in
+    let filled = subst (λ (reads : List (Option ℕ)). IsFilled t.stamp.cell reads c.fill.new.body) c.node.ensures c.fill.ensures in
+    let upper : site_stamp site ≡ t.stamp = ap site_stamp c.site_at-site.ensures.site ∙ stamp_in t.stamp _ _ in
+    none_puts (WasReadOf t read_set) c.drop.new.change (kept (site_stamp site)) [] c.drop.ensures.locks t.stamp (node_of read_set)
+    (inl (upper, refl)) seen.1 site
+    (found_site z t read_set old c.requires.found seen _ filled site is) (found_root z t read_set old c.requires.found seen)
+    c.drop.ensures.puts

@@ -1,7 +1,10 @@
-use Rattle.std.proofs.Common.{◌<◌, ◌-◌, ◌≡◌, ◌∙◌, ℕ, List, Option, get_or, subst, sym, ap, inl, inr, refl}
+use Rattle.std.proofs.Common.{◌<◌, ◌-◌, ◌≡◌, ◌∙◌, ℕ, List, [], ◌∷◌, Option, get_or, subst, sym, ap, inl, inr, refl}
 use Rattle.art_plan.proofs.OtherChildren.{merge_leaf_knows}
 use Rattle.art_plan.specs.ChooseRemove.Plans.{IsEitherAt}
+use Rattle.art_plan.proofs.AbovePuts.{above_puts}
 use Rattle.art_plan.proofs.AboveSites.{above_deep, above_taken}
+use Rattle.art_cell.specs.declared.cells.Link.TheVariants.{Leaf as leaf}
+use Rattle.art_plan.specs.ChooseInsert.Plans.{WasReadOf}
 use Rattle.art_plan.proofs.ChildSites.{site_named, stamp_in}
 use Rattle.art_plan.proofs.LockedCells.{two_locked}
 use Rattle.art_plan.proofs.WholeCells.{above_kept, kept_within}
@@ -62,3 +65,19 @@ returns-clause-locks c =
 
 pub returns-clause-effects : goal.returns-clause-effects
 returns-clause-effects c = c.merge_leaf.ensures.effects ∙ ap (λ (x : Cell). remove_effects c.args.old.now (node_words x)) (sym c.in-Node.is)
+
+pub returns-clause-changes : goal.returns-clause-changes
+returns-clause-changes c =
+    let z = c.requires.seen.0 in
+    let t = c.args.position.now in
+    let a = c.in-Some.above in
+    let old = c.args.old.now in
+    let read_set = c.args.read_set.now in
+    let seen = c.requires.seen.1 in
+    let site = c.site_at-site.result in
+    let is = site_named a.stamp _ c.as_slice-key.result.now old.key.items a.depth site c.site_at-site.ensures.site
+    c.as_slice-key.ensures.value in
+    let upper = subst (λ (reads : List (Option ℕ)). IsFilled a.stamp.cell reads c.fill-2.new.body) c.above.ensures c.fill-2.ensures in
+    above_puts z old.key.items t read_set c.in-Node.node c.in-Node.is a c.in-Some.is (seen.above a c.in-Some.is) _ upper site is
+    (WasReadOf t read_set) (inr (a, c.in-Some.is, refl, refl)) c.merge_leaf.new.change (gone t.stamp ∷ []) c.merge_leaf.ensures.locks
+    (leaf c.args.other) (λ same. absurd (cc)) c.merge_leaf.ensures.puts

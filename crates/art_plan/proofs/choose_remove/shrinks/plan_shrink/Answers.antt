@@ -1,8 +1,11 @@
-use Rattle.std.proofs.Common.{◌<◌, ◌≤◌, ◌-◌, ◌∙◌, ◌≡◌, ℕ, List, Option, length, get_or, subst, sym, ap, arith, inl, inr, refl}
+use Rattle.std.proofs.Common.{◌<◌, ◌≤◌, ◌-◌, ◌∙◌, ◌≡◌, ℕ, List, [], ◌∷◌, Option, length, get_or, subst, sym, ap, arith, inl, inr, refl}
 use Rattle.art_plan.proofs.FoundLeaves.{found_deep}
-use Rattle.art_plan.proofs.SmallerNodes.{node_sparse, shrink_knows}
+use Rattle.art_plan.proofs.SmallerNodes.{node_sparse, shrink_knows, smaller_apart}
 use Rattle.art_plan.specs.ChooseRemove.Plans.{IsEitherAt}
+use Rattle.art_plan.proofs.AbovePuts.{above_puts}
 use Rattle.art_plan.proofs.AboveSites.{above_deep, above_taken}
+use Rattle.art_cell.specs.declared.cells.Link.TheVariants.{Node as node}
+use Rattle.art_plan.specs.ChooseInsert.Plans.{WasReadOf}
 use Rattle.art_plan.proofs.ChildSites.{site_named, stamp_in}
 use Rattle.art_plan.proofs.LockedCells.{two_locked}
 use Rattle.art_plan.proofs.WholeCells.{above_kept, kept_within}
@@ -10,7 +13,7 @@ use Rattle.art_plan.specs.ChooseInsert.Bodies.{AreWithin, IsFilled}
 use Rattle.art_plan.specs.ArtFind.ReadSets.{above_of, node_of}
 use Rattle.art_plan.specs.Puts.{IsTaken}
 use Rattle.art_plan.specs.Seen.{gone, kept, site_stamp}
-use Rattle.art_plan.specs.Remove.Removals.{IsSparse}
+use Rattle.art_plan.specs.Remove.Removals.{IsSparse, smaller_node}
 use Rattle.art_plan.specs.ChooseRemove.Plans.{node_words}
 use Rattle.art_plan.specs.Remove.Removals.{remove_effects}
 use Rattle.art_cell.specs.declared.cells.Cell.{Cell}
@@ -83,3 +86,23 @@ returns-clause-locks c =
 
 pub returns-clause-effects : goal.returns-clause-effects
 returns-clause-effects c = c.shrink.ensures.effects ∙ ap (λ (x : Cell). remove_effects c.args.old.now (node_words x)) (sym c.in-Node.is)
+
+pub returns-clause-changes : goal.returns-clause-changes
+returns-clause-changes c =
+    let z = c.requires.seen.0 in
+    let t = c.args.position.now in
+    let a = c.in-Some.above in
+    let old = c.args.old.now in
+    let read_set = c.args.read_set.now in
+    let n = c.in-Node.node in
+    let seen = c.requires.seen.1 in
+    let site = c.site_at-site.result in
+    let is = site_named a.stamp _ c.as_slice-key.result.now old.key.items a.depth site c.site_at-site.ensures.site
+    c.as_slice-key.ensures.value in
+    let upper = subst (λ (reads : List (Option ℕ)). IsFilled a.stamp.cell reads c.fill-2.new.body) c.above.ensures c.fill-2.ensures in
+    let lower = subst (λ (reads : List (Option ℕ)). IsFilled t.stamp.cell reads c.fill.new.body) c.node.ensures c.fill.ensures in
+    above_puts z old.key.items t read_set n c.in-Node.is a c.in-Some.is (seen.above a c.in-Some.is) _ upper site is
+    (WasReadOf t read_set) (inr (a, c.in-Some.is, refl, refl)) c.shrink.new.change (gone t.stamp ∷ []) c.shrink.ensures.locks
+    (node (smaller_node c.fill.new.body c.args.made))
+    (smaller_apart z t read_set old c.requires.found c.requires.shrinks.0 c.requires.shrinks.1 n c.in-Node.is seen.node c.fill.new.body
+    lower c.args.made) c.shrink.ensures.puts

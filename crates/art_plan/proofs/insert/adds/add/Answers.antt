@@ -35,3 +35,10 @@ returns-clause-effects c = ap (λ (ch : Change). ch.effects) (c.put.ensures ∙ 
 
 pub returns-clause-locks : goal.returns-clause-locks
 returns-clause-locks c = ap (λ (ch : Change). ch.targets.items) (c.put.ensures ∙ ap (with_puts_of 0) (filled (goal.at.returns-clause-locks c).After-lock))
+
+pub returns-clause-puts : goal.returns-clause-puts
+returns-clause-puts c = (
+  c.added.new.writes.items,
+  subst (λ w. IsSitePlan c.args.site.now w c.added.new.writes.items) c.child_word.ensures c.added.ensures.plan,
+  ap (λ (ch : Change). ch.puts.items) (c.put.ensures ∙ ap (with_puts_of 0) (filled (goal.at.returns-clause-puts c).After-lock)),
+)

@@ -46,3 +46,10 @@ returns-clause-effects c = ap (λ (ch : Change). ch.effects) (c.put.ensures ∙ 
 
 pub returns-clause-locks : goal.returns-clause-locks
 returns-clause-locks c = ap (λ (ch : Change). ch.targets.items) (c.put.ensures ∙ ap (with_puts_of 0) (filled (goal.at.returns-clause-locks c).After-make))
+
+pub returns-clause-puts : goal.returns-clause-puts
+returns-clause-puts c = (
+  c.replaced.new.writes.items,
+  subst (λ (w : ℕ). IsSitePlan c.args.site.now w c.replaced.new.writes.items) c.child_word-new_node.ensures c.replaced.ensures.plan,
+  ap (λ (ch : Change). ch.puts.items) (c.put.ensures ∙ ap (with_puts_of 0) (filled (goal.at.returns-clause-puts c).After-make)),
+)

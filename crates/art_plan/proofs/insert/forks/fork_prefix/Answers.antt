@@ -85,3 +85,15 @@ returns-clause-effects c = ap (λ (ch : Change). ch.effects) (both_put (goal.at.
 
 pub returns-clause-locks : goal.returns-clause-locks
 returns-clause-locks c = ap (λ (ch : Change). ch.targets.items) (both_put (goal.at.returns-clause-locks c).After-plan_prefix (filled (goal.at.returns-clause-locks c).After-make) c.put-2.new.change c.put-2.ensures)
+
+pub returns-clause-puts : goal.returns-clause-puts
+returns-clause-puts c =
+    let after = (goal.at.returns-clause-puts c).After-plan_prefix in
+    let below = c.args.below.now.body.now in (
+      c.replaced.new.writes.items,
+      c.plan_prefix.new.writes.items,
+      site_plan after,
+      subst (IsPrefixPlan below.layout (word_of below) c.plan_prefix.new.writes.items) (parts after).rest (cut after),
+      ap (λ (ch : Change). ch.puts.items)
+          (both_put after (filled (goal.at.returns-clause-puts c).After-make) c.put-2.new.change c.put-2.ensures),
+    )

@@ -52,3 +52,10 @@ returns-clause-effects c = ap (λ (ch : Change). ch.effects) (c.put.ensures ∙ 
 
 pub returns-clause-locks : goal.returns-clause-locks
 returns-clause-locks c = ap (λ (ch : Change). ch.targets.items) (c.put.ensures ∙ ap (with_puts_of 0) (filled (goal.at.returns-clause-locks c).After-unlink-2))
+
+pub returns-clause-puts : goal.returns-clause-puts
+returns-clause-puts c = (
+  c.replaced.new.writes.items,
+  site_plan (goal.at.returns-clause-puts c).After-unlink-2,
+  ap (λ (ch : Change). ch.puts.items) (c.put.ensures ∙ ap (with_puts_of 0) (filled (goal.at.returns-clause-puts c).After-unlink-2)),
+)

@@ -87,3 +87,14 @@ returns-clause-effects c = λ done. ap (λ (ch : Change). ch.effects) (both_put 
 
 pub returns-clause-locks : goal.returns-clause-locks
 returns-clause-locks c = λ done. ap (λ (ch : Change). ch.targets.items) (both_put (goal.at.returns-clause-locks c).After-plan_prefix (filled (goal.at.returns-clause-locks c).After-replaced) c.put-2.new.change c.put-2.ensures)
+
+pub returns-clause-puts : goal.returns-clause-puts
+returns-clause-puts c = λ done.
+    let after = (goal.at.returns-clause-puts c).After-plan_prefix in (
+      c.replaced.new.writes.items,
+      c.plan_prefix.new.writes.items,
+      site_plan after,
+      gain after,
+      ap (λ (ch : Change). ch.puts.items)
+          (both_put after (filled (goal.at.returns-clause-puts c).After-replaced) c.put-2.new.change c.put-2.ensures),
+    )
