@@ -6,7 +6,7 @@ use Rattle.std.specs.Prelude.{get_or}
 use Rattle.std.specs.Option.{option_map}
 use Rattle.arrayvec.specs.ArrayVec.{ArrayVec}
 use Rattle.art_erase.specs.ArtAttempt.Inserting as inserts
-use Rattle.art_erase.specs.ArtAttempt.Inserting.{is_begun}
+use Rattle.art_erase.specs.ArtMake.Apply.{is_begun}
 use Rattle.art_erase.specs.ArtAttempt.declared.inserting.Inserting.{Inserting as Insertion}
 use Rattle.art_erase.specs.ArtAttempt.declared.inserting.Stage.{Stage as InsertStage}
 use Rattle.art_erase.specs.ArtAttempt.declared.inserting.Stage.TheVariants as insert

@@ -13,7 +13,8 @@ use Rattle.art_make.proofs.Keeping.{IsMade, asks_made}
 use Rattle.art_call.proofs.ArtAttempt.Left.{tries_some}
 use Rattle.art_call.proofs.ArtErase.Finds as erase_finds
 use Rattle.art_call.specs.ArtAttempt.Inserting as inserts
-use Rattle.art_call.specs.ArtAttempt.Inserting.{free_at, held_left, is_begun, last_left, apply_left, tries_left}
+use Rattle.art_call.specs.ArtAttempt.Inserting.{free_at, held_left, last_left, apply_left, tries_left}
+use Rattle.art_make.specs.Apply.{is_begun}
 use Rattle.art_call.specs.ArtAttempt.Trying.{StillTries}
 use Rattle.art_call.specs.ArtAttempt.declared.inserting.Inserting.{Inserting as Insertion}
 use Rattle.art_call.specs.ArtAttempt.declared.inserting.Stage.{Stage as InsertStage}
