@@ -11,6 +11,7 @@ use Rattle.art_attempt.specs.declared.inserting.Stage.{Stage}
 use Rattle.art_attempt.specs.declared.inserting.Stage.TheVariants as stage
 use Rattle.art_attempt.specs.declared.rooms.Room.{Room}
 use Rattle.art_cell.specs.declared.cells.Cell.{Cell as CellOf}
+use Rattle.art_cell.specs.declared.cells.Cell.TheVariants as cell
 use Rattle.art_cell.specs.declared.layouts.Pool.{Pool}
 use Rattle.art_plan.specs.ChooseInsert.Plans.{Comes, IsLockedAt, LocksOnly, gives_way}
 use Rattle.art_find.specs.Descents as descents
@@ -96,6 +97,10 @@ entered_at s = None
 -- how it ended, if it has
 abbrev pub ended_at : Inserting → Option Entered
 ended_at m = entered_at m.stage
+
+-- a position that says nothing, where none is known yet
+abbrev pub nowhere : Position
+nowhere = record { stamp = record { cell = cell.Anchor; version = 0; first = 0 }; depth = 0; above = None; verdict = verdict.Absent }
 
 -- ---- what it tells
 

@@ -3,7 +3,7 @@ ghost use Rattle.std.specs.Prelude.{◌≡◌, ◌≢◌, ℕ, ◌+◌, ◌-◌,
 ghost use Rattle.art_attempt.specs.Asking.{Answers};
 ghost use Rattle.art_attempt.specs.Inserting.{Fits, HasMade, HasPlace, HasSupplies, HasVouched, IsFinding, IsRoom};
 ghost use Rattle.art_attempt.specs.Inserting.{IsRestartBy, IsOverlapBy, asks, check_of, deed_at, ended_at, entered_by, entered_so, finding_asks, found_at, free_at, given_up, is_free};
-ghost use Rattle.art_attempt.specs.Inserting.{apply_asks, apply_left, steps_left, supply_asks, vouching_asks};
+ghost use Rattle.art_attempt.specs.Inserting.{apply_asks, apply_left, nowhere, steps_left, supply_asks, vouching_asks};
 ghost use Rattle.art_attempt.specs.Rooms.{SameRow, demand_of};
 ghost use Rattle.art_attempt.specs.Trying.{HasSpent, StillTries};
 ghost use Rattle.art_attempt.specs.declared.inserting.Entered.TheVariants.{Restart as anew, Overlaps as overlaps};
@@ -617,8 +617,10 @@ impl Inserting {
     }
 }
 
-/// A stand that says nothing.
-pub fn nowhere() -> Position {
+/// A position that says nothing, where none is known yet.
+pub fn nowhere() -> Position
+    ensures { result ≡ nowhere }
+{
     Position {
         stamp: Stamp {
             cell: Cell::Anchor,
