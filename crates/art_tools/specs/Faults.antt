@@ -1,5 +1,5 @@
 -- Why the words give no settings.
-use Rattle.std.specs.Prelude.{◌≡◌, [], ⊤}
+use Rattle.std.specs.Prelude.{◌≡◌, [], ⊤, ℕ, List, Option, Some, None, codes}
 use Rattle.clap.specs.Kinds.{Kinds, IsAmong}
 use Rattle.clap.specs.Values.{kind_of}
 use Rattle.clap.specs.declared.error.Error.{Error}
@@ -22,3 +22,9 @@ abbrev pub Explains : Kinds → Type 0 → SettingsFault → Type 0
 Explains kinds fits (Usage error) = IsAmong (kind_of error) kinds
 Explains kinds fits Range = (kinds ≡ []) × ¬ fits
 Explains kinds fits NoMemory = ⊤
+
+-- what is printed of a fault; of one that clap tells, its text, of which no clause speaks
+abbrev pub told_fault : SettingsFault → Option (List ℕ)
+told_fault (Usage error) = None
+told_fault Range = Some (codes "a number is out of its range")
+told_fault NoMemory = Some (codes "no memory")

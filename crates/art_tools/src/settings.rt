@@ -1,11 +1,13 @@
 //! What the words of the command line ask for, and why they may ask for nothing.
 ghost use Rattle.std.specs.Prelude.{◌≡◌};
-ghost use Rattle.art_tools.specs.Faults.{fault_from};
+ghost use Rattle.art_tools.specs.Faults.{fault_from, told_fault};
 ghost use Rattle.art_tools.specs.declared.settings.SettingsFault.TheVariants.{NoMemory};
 
 use art_server::art_table::Config;
 use clap::error::ErrorKind;
 use std::alloc::AllocError;
+use std::error::Error;
+use std::fmt;
 
 /// What the program is asked to do: a variant for each subcommand, with its options.
 #[derive(Clone, Copy)]
@@ -59,7 +61,7 @@ pub struct ServeSettings<'a> {
 }
 
 /// Why there are no settings.
-#[derive(Drop)]
+#[derive(Debug, Drop)]
 pub enum SettingsFault {
     /// The words were refused, or they ask for help. The error has the text for the user, where it
     /// goes, and the status to exit with.
@@ -69,6 +71,20 @@ pub enum SettingsFault {
     /// Memory ran out.
     NoMemory,
 }
+
+impl fmt::Display for SettingsFault {
+    ghost output = { told_fault };
+
+    fn fmt<W: fmt::Write>(&self, f: &mut fmt::Formatter<W>) -> fmt::Result {
+        match self {
+            SettingsFault::Usage(error) => write!(f, "{error}"),
+            SettingsFault::Range => f.write_str("a number is out of its range"),
+            SettingsFault::NoMemory => f.write_str("no memory"),
+        }
+    }
+}
+
+impl Error for SettingsFault {}
 
 impl From<clap::Error> for SettingsFault {
     ghost from_gives = { λ error fault. fault ≡ fault_from error };
