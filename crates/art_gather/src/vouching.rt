@@ -97,6 +97,7 @@ impl Vouching {
     }
 
     /// Makes its steps, one after another, as long as more than one turn is left.
+    #[inline(always)]
     pub fn run<S: EpochSteps>(
         &mut self,
         steps: &mut S,

@@ -118,6 +118,7 @@ impl Apply {
     }
 
     /// Makes all steps that are left; while no cell is locked, as long as more than one turn is left.
+    #[inline(always)]
     pub fn run<S: EpochSteps>(&mut self, steps: &mut S, change: &Change, left: &mut u32)
         requires some { 0 < left.old }
         requires admitted { IsAdmitted (S.admits steps.old) change.now.effects.deed }
