@@ -1,16 +1,16 @@
--- Each step of an attempt is as many as its answer says; what it commits is the insert of the row.
+-- Each step of an attempt is as many as its answer says; what it commits is what its job does.
 use Rattle.std.proofs.Common.{◌≡◌, ◌∙◌, ◌+◌, ℕ, nat_lt, Bool, List, Option, Some, None, sym, ap, subst}
 use Rattle.std.proofs.lemmas.Option.{same_Some}
 use Rattle.art_attempt.proofs.Finds.{finding_allowed}
 use Rattle.art_attempt.proofs.Given.{ask_looks, look_once, look_row, made_row, plain_row, supply_once, supply_plain}
-use Rattle.art_gather.proofs.Asked.{if_some, supply_asks_supply, vouch_asks_look}
+use Rattle.art_gather.proofs.Asked.{if_some, lower_asks_look, reads_look, supply_asks_supply, vouch_asks_look}
 use Rattle.art_make.proofs.Keeping.{asks_made}
 use Rattle.art_attempt.specs.Asking.{Answers, given}
-use Rattle.art_attempt.specs.Inserting.{Fits, StageFits, asks, asks_at, deed_at}
-use Rattle.art_attempt.specs.Rooms.{demand_of}
-use Rattle.art_attempt.specs.declared.inserting.Inserting.{Inserting}
-use Rattle.art_attempt.specs.declared.inserting.Stage.{Stage}
-use Rattle.art_attempt.specs.declared.inserting.Stage.TheVariants as stage
+use Rattle.art_attempt.specs.Attempts.{Fits, StageFits, asks, asks_at, deed_at}
+use Rattle.art_attempt.specs.Cases.{demand_of, made_by}
+use Rattle.art_attempt.specs.declared.attempts.Attempt.{Attempt}
+use Rattle.art_attempt.specs.declared.attempts.Stage.{Stage}
+use Rattle.art_attempt.specs.declared.attempts.Stage.TheVariants as stage
 use Rattle.art_attempt.specs.declared.rooms.Room.{Room}
 use Rattle.art_cell.specs.declared.cells.Cell.{Cell}
 use Rattle.art_cell.specs.declared.layouts.Pool.{Pool}
@@ -35,7 +35,6 @@ use Rattle.art_machine.specs.declared.actions.Answer.TheVariants.{Begun, Word, C
 use Rattle.art_make.proofs.Told.{allowed}
 use Rattle.art_make.specs.Apply as apply
 use Rattle.art_make.specs.declared.apply.Apply.{Apply}
-use Rattle.art_plan.specs.Insert.Puts.{inserted}
 use Rattle.art_plan.specs.declared.changes.Change.{Change as ChangeOf}
 use Rattle.art_step.specs.declared.deeds.Deed.{Deed}
 use Rattle.art_step.specs.declared.views.Sizes.{Sizes}
@@ -86,27 +85,31 @@ module _ (z : Sizes) (v w : View) where
 
 -- ---- of an attempt
 
-module _ (z : Sizes) (u : View) (m : Inserting) (r : Room) (v w : View) (a : Action) (answer : Answer) (row : Answers z (deed_at m r) r.change a answer v w) where
+module _ (z : Sizes) (u : View) (m : Attempt) (r : Room) (v w : View) (a : Action) (answer : Answer) (row : Answers z (deed_at m r) r.change a answer v w) where
   made_at : (s : Stage) → StageFits z u s m r v → asks_at s m r ≡ Some a → w.steps ≡ v.steps + steps_in answer
   made_at stage.Finding fits is = look_made z v w (deed_at m r) r.change a answer row (ask_looks z (deed_at m r) v a (finding_allowed z u m r v fits a is))
   made_at stage.Reserve fits is =
-      supply_made z v w (deed_at m r) r.change a answer row (demand_of z m.position.verdict) r.row.key.items r.row.value r.stock fits.0.early m.reserve fits.0.fits is
+      supply_made z v w (deed_at m r) r.change a answer row (demand_of z m.case m.position.verdict) r.row.key.items r.row.value r.stock fits.0.early m.reserve fits.0.fits is
   made_at stage.Vouching fits is = look_made z v w (deed_at m r) r.change a answer row (vouch_asks_look m.position m.vouching a is)
+  made_at (stage.Reading q) fits is = look_made z v w (deed_at m r) r.change a answer row (reads_look m.position.stamp q a is)
+  made_at stage.Lowering fits is = look_made z v w (deed_at m r) r.change a answer row (lower_asks_look m.position m.lowering a is)
   made_at stage.Apply fits is = change_made z v w (deed_at m r) r.change a answer row fits.0.early m.apply fits.0.fits is
   made_at (stage.Ended e) fits is = absurd (cc)
 
   pub attempt_steps : Fits z u m r v → asks m r ≡ Some a → w.steps ≡ v.steps + steps_in answer
   attempt_steps fits is = made_at m.stage fits.stage is
 
--- ---- what is committed is the insert of the row
+-- ---- what is committed
 
-module _ (z : Sizes) (u : View) (m : Inserting) (r : Room) (v : View) (c : Cell) (b : Bool) where
-  deed_made : (s : Stage) → StageFits z u s m r v → asks_at s m r ≡ Some (Commit c b) → r.change.effects.deed ≡ inserted r.row
+module _ (z : Sizes) (u : View) (m : Attempt) (r : Room) (v : View) (c : Cell) (b : Bool) where
+  deed_made : (s : Stage) → StageFits z u s m r v → asks_at s m r ≡ Some (Commit c b) → r.change.effects.deed ≡ made_by m.job r.row r.gone
   deed_made stage.Finding fits is = absurd (ask_looks z (deed_at m r) v (Commit c b) (finding_allowed z u m r v fits (Commit c b) is))
   deed_made stage.Reserve fits is = absurd (supply_asks_supply r.row.key.items r.row.value r.stock m.reserve (Commit c b) is)
+  deed_made (stage.Reading q) fits is = absurd (reads_look m.position.stamp q (Commit c b) is)
   deed_made stage.Vouching fits is = absurd (vouch_asks_look m.position m.vouching (Commit c b) is)
+  deed_made stage.Lowering fits is = absurd (lower_asks_look m.position m.lowering (Commit c b) is)
   deed_made stage.Apply fits is = fits.0.deed
   deed_made (stage.Ended e) fits is = cc
 
-  pub makes_insert : Fits z u m r v → asks m r ≡ Some (Commit c b) → r.change.effects.deed ≡ inserted r.row
-  makes_insert fits is = deed_made m.stage fits.stage is
+  pub makes_deed : Fits z u m r v → asks m r ≡ Some (Commit c b) → r.change.effects.deed ≡ made_by m.job r.row r.gone
+  makes_deed fits is = deed_made m.stage fits.stage is

@@ -1,18 +1,21 @@
 -- The place of the key is sought, and checked.
-use Rattle.std.proofs.Common.{◌≡◌, ◌≢◌, ℕ, ◌+◌, ◌<◌, ◌≤◌, length, true, false, List, Option, Some, None, refl, sym, ap, ◌∙◌, subst, arith}
+use Rattle.std.proofs.Common.{◌≡◌, ◌≢◌, ℕ, ◌+◌, ◌<◌, ◌≤◌, length, Bool, true, false, List, Option, Some, None, refl, sym, ap, ◌∙◌, subst, arith}
 use Rattle.std.specs.Prelude.{IfSome, Ok, Err, ⊤}
 use Rattle.std.specs.Option.{option_map, unwrap_or}
 use Rattle.std.proofs.lemmas.Option.{same_Some}
 use Rattle.art_attempt.proofs.Steps.{cell_fails}
 use Rattle.art_attempt.proofs.LastCheck.{check_is, stood_then}
 use Rattle.art_attempt.proofs.Tries.{event_since, later_then, rest_told, still_later, still_reads, stock_reads}
-use Rattle.art_attempt.proofs.Given.{check_look}
 use Rattle.art_attempt.specs.Asking.{MayAsk}
-use Rattle.art_attempt.specs.Inserting.{EndFits, EndsSo, IsFinding, IsPresent, asks_place, check_by, check_of, deed_at, entered_by, finding_asks, present, present_of, value_found}
+use Rattle.art_attempt.specs.Attempts.{EndFits, EndsSo, EndsWithin, HasSettled, IsFinding, WasPlaced, asks_place, check_as, check_of, deed_at, entered_by, finding_asks, present}
+use Rattle.art_attempt.specs.Attempts.{settled_by, settled_of, settles, told_as, value_found}
+use Rattle.art_attempt.specs.Cases.{ComesThere}
 use Rattle.art_attempt.specs.Trying.{HasSpent, IsCheckOf, IsLater, StoodAtCheck}
-use Rattle.art_attempt.specs.declared.inserting.Entered.{Entered}
-use Rattle.art_attempt.specs.declared.inserting.Entered.TheVariants.{Present, Overlaps as overlaps}
-use Rattle.art_attempt.specs.declared.inserting.Inserting.{Inserting}
+use Rattle.art_attempt.specs.declared.attempts.Ending.{Ending}
+use Rattle.art_attempt.specs.declared.attempts.Ending.TheVariants.{Present, Overlaps as overlaps}
+use Rattle.art_attempt.specs.declared.attempts.Attempt.{Attempt}
+use Rattle.art_attempt.specs.declared.attempts.Job.{Job}
+use Rattle.art_attempt.specs.declared.attempts.Job.TheVariants.{Insert, Remove}
 use Rattle.art_attempt.specs.declared.rooms.Room.{Room}
 use Rattle.art_cell.specs.declared.cells.Link.{Link}
 use Rattle.art_cell.specs.declared.cells.Link.TheVariants.{Leaf as leaf, Node as node}
@@ -30,7 +33,7 @@ use Rattle.art_find.specs.declared.verdicts.Verdict.{Verdict}
 use Rattle.art_find.specs.declared.verdicts.Verdict.TheVariants.{Found, Empty, LeafMismatch, PrefixMismatch, NoChild, Overlaps, Torn, Absent}
 use Rattle.art_frame.proofs.Stocked.{stock_same}
 use Rattle.art_machine.proofs.AnswerKinds.{answers_plain, finds_word}
-use Rattle.art_machine.specs.Acting.{Answers, IsPlain, goes_on, passed, telling}
+use Rattle.art_machine.specs.Acting.{Answers, IsLook, IsPlain, goes_on, passed, telling}
 use Rattle.art_machine.specs.declared.actions.Action.{Action}
 use Rattle.art_machine.specs.declared.actions.Action.TheVariants.{Begin, Read, ReadLeaf, Check, Settle, Upgrade, Claim, Write, WriteLeaf, Commit, Release}
 use Rattle.art_machine.specs.declared.actions.Action.TheVariants.{ClearBit, GiveBack, ReadEpoch, StorePin, RaiseEpoch, ReadPin}
@@ -44,7 +47,7 @@ use Rattle.art_find.specs.Findings.{FindingFits, IsPlaced, IsStanding, PlaceFits
 use Rattle.art_find.specs.declared.read_sets.ReadSet.{ReadSet}
 use Rattle.art_find.specs.declared.findings.Finding.{Finding}
 use Rattle.art_find.specs.declared.findings.Position.{Position}
-use Rattle.art_step.proofs.Shows.{failed_rest, insert_settles, passed_rest, told_rest}
+use Rattle.art_step.proofs.Shows.{failed_rest, insert_settles, passed_rest, remove_settles, told_rest}
 use Rattle.art_step.specs.Shows.{HasValue, OnlyReads, Rest, Shows}
 use Rattle.art_step.specs.Steps.Check as check
 use Rattle.art_step.specs.WordPlaces.{HasVersion}
@@ -56,8 +59,11 @@ use Rattle.art_tree.specs.Heaps.{Cells}
 
 -- ---- what is asked
 
-pub no_place : (m : Finding) (o : Option Action) (a : Action) → position_at m ≡ None → asks_place (position_at m) o ≡ Some a → o ≡ Some a
-no_place m o a nowhere is = sym (ap (λ (t : Option Position). asks_place t o) nowhere) ∙ is
+pub no_place : (j : Job) (m : Finding) (o : Option Action) (a : Action) → position_at m ≡ None → asks_place j (position_at m) o ≡ Some a → o ≡ Some a
+no_place j m o a nowhere is = sym (ap (λ (t : Option Position). asks_place j t o) nowhere) ∙ is
+
+pub at_place : (j : Job) (m : Finding) (o : Option Action) (a : Action) (t : Position) → position_at m ≡ Some t → asks_place j (position_at m) o ≡ Some a → check_of j t ≡ a
+at_place j m o a t at is = same_Some {A = Action} (check_of j t) a (sym (ap (λ (s : Option Position). asks_place j s o) at) ∙ is)
 
 map_none : {A B : Type 0} (f : A → B) (o : Option A) → option_map f o ≡ None → o ≡ None
 map_none f (Some x) is = cc
@@ -228,12 +234,12 @@ module _ (z : Sizes) (k : List ℕ) (what : Option ℕ → Deed) (m : Finding) (
 
 -- ---- the place is checked
 
--- a check of a leaf with the key tells the deed
-abbrev told_by : Verdict → Deed → Option Deed
-told_by (Found l value) d = Some d
-told_by found d = None
+-- the check of a place is a look
+pub check_look : (b : Bool) (x : Stamp) → IsLook (check_as b x)
+check_look true x = tt
+check_look false x = tt
 
-pub settle_passed : (z : Sizes) (d : Deed) (x : Stamp) (r : Answer) (v w : View) → Answers z (telling d) (Settle x) r v w → passed r ≡ true → check.Unchanged z v w x (Some d)
+settle_passed : (z : Sizes) (d : Deed) (x : Stamp) (r : Answer) (v w : View) → Answers z (telling d) (Settle x) r v w → passed r ≡ true → check.Unchanged z v w x (Some d)
 settle_passed z d x (Begun r) v w row is = absurd row
 settle_passed z d x (Word y) v w row is = absurd row
 settle_passed z d x (Upgraded s) v w row is = absurd row
@@ -241,7 +247,7 @@ settle_passed z d x Done v w row is = absurd row
 settle_passed z d x (Checked (Ok done)) v w row is = row
 settle_passed z d x (Checked (Err e)) v w row is = cc
 
-pub check_passed : (z : Sizes) (d : Deed) (x : Stamp) (r : Answer) (v w : View) → Answers z (telling d) (Check x) r v w → passed r ≡ true → check.Unchanged z v w x None
+check_passed : (z : Sizes) (d : Deed) (x : Stamp) (r : Answer) (v w : View) → Answers z (telling d) (Check x) r v w → passed r ≡ true → check.Unchanged z v w x None
 check_passed z d x (Begun r) v w row is = absurd row
 check_passed z d x (Word y) v w row is = absurd row
 check_passed z d x (Upgraded s) v w row is = absurd row
@@ -249,18 +255,11 @@ check_passed z d x Done v w row is = absurd row
 check_passed z d x (Checked (Ok done)) v w row is = row
 check_passed z d x (Checked (Err e)) v w row is = cc
 
-pub place_passed : (z : Sizes) (d : Deed) (found : Verdict) (t : Position) (r : Answer) (v w : View) → Answers z (telling d) (check_by found t) r v w → passed r ≡ true
-    → check.Unchanged z v w t.stamp (told_by found d)
-place_passed z d (Found l value) t r v w row is = settle_passed z d t.stamp r v w row is
-place_passed z d Empty t r v w row is = check_passed z d t.stamp r v w row is
-place_passed z d (LeafMismatch l at byte) t r v w row is = check_passed z d t.stamp r v w row is
-place_passed z d (PrefixMismatch n header at) t r v w row is = check_passed z d t.stamp r v w row is
-place_passed z d (NoChild n header) t r v w row is = check_passed z d t.stamp r v w row is
-place_passed z d Overlaps t r v w row is = check_passed z d t.stamp r v w row is
-place_passed z d Torn t r v w row is = check_passed z d t.stamp r v w row is
-place_passed z d Absent t r v w row is = check_passed z d t.stamp r v w row is
+pub place_passed : (z : Sizes) (d : Deed) (b : Bool) (x : Stamp) (r : Answer) (v w : View) → Answers z (telling d) (check_as b x) r v w → passed r ≡ true → check.Unchanged z v w x (told_as b d)
+place_passed z d true x r v w row is = settle_passed z d x r v w row is
+place_passed z d false x r v w row is = check_passed z d x r v w row is
 
-pub settle_failed : (z : Sizes) (d : Deed) (x : Stamp) (r : Answer) (v w : View) → Answers z (telling d) (Settle x) r v w → passed r ≡ false → OnlyReads v w
+settle_failed : (z : Sizes) (d : Deed) (x : Stamp) (r : Answer) (v w : View) → Answers z (telling d) (Settle x) r v w → passed r ≡ false → OnlyReads v w
 settle_failed z d x (Begun r) v w row is = absurd row
 settle_failed z d x (Word y) v w row is = absurd row
 settle_failed z d x (Upgraded s) v w row is = absurd row
@@ -268,7 +267,7 @@ settle_failed z d x Done v w row is = absurd row
 settle_failed z d x (Checked (Ok done)) v w row is = cc
 settle_failed z d x (Checked (Err e)) v w row is = failed_rest v w x e.found row.3
 
-pub check_failed : (z : Sizes) (d : Deed) (x : Stamp) (r : Answer) (v w : View) → Answers z (telling d) (Check x) r v w → passed r ≡ false → OnlyReads v w
+check_failed : (z : Sizes) (d : Deed) (x : Stamp) (r : Answer) (v w : View) → Answers z (telling d) (Check x) r v w → passed r ≡ false → OnlyReads v w
 check_failed z d x (Begun r) v w row is = absurd row
 check_failed z d x (Word y) v w row is = absurd row
 check_failed z d x (Upgraded s) v w row is = absurd row
@@ -276,18 +275,12 @@ check_failed z d x Done v w row is = absurd row
 check_failed z d x (Checked (Ok done)) v w row is = cc
 check_failed z d x (Checked (Err e)) v w row is = failed_rest v w x e.found row.3
 
-pub place_failed : (z : Sizes) (d : Deed) (found : Verdict) (t : Position) (r : Answer) (v w : View) → Answers z (telling d) (check_by found t) r v w → passed r ≡ false → OnlyReads v w
-place_failed z d (Found l value) t r v w row is = settle_failed z d t.stamp r v w row is
-place_failed z d Empty t r v w row is = check_failed z d t.stamp r v w row is
-place_failed z d (LeafMismatch l at byte) t r v w row is = check_failed z d t.stamp r v w row is
-place_failed z d (PrefixMismatch n header at) t r v w row is = check_failed z d t.stamp r v w row is
-place_failed z d (NoChild n header) t r v w row is = check_failed z d t.stamp r v w row is
-place_failed z d Overlaps t r v w row is = check_failed z d t.stamp r v w row is
-place_failed z d Torn t r v w row is = check_failed z d t.stamp r v w row is
-place_failed z d Absent t r v w row is = check_failed z d t.stamp r v w row is
+place_failed : (z : Sizes) (d : Deed) (b : Bool) (x : Stamp) (r : Answer) (v w : View) → Answers z (telling d) (check_as b x) r v w → passed r ≡ false → OnlyReads v w
+place_failed z d true x r v w row is = settle_failed z d x r v w row is
+place_failed z d false x r v w row is = check_failed z d x r v w row is
 
 -- so it does not go on
-pub settle_off : (z : Sizes) (d : Deed) (x : Stamp) (r : Answer) (v w : View) → Answers z (telling d) (Settle x) r v w → passed r ≡ false → goes_on r ≡ false
+settle_off : (z : Sizes) (d : Deed) (x : Stamp) (r : Answer) (v w : View) → Answers z (telling d) (Settle x) r v w → passed r ≡ false → goes_on r ≡ false
 settle_off z d x (Begun r) v w row is = absurd row
 settle_off z d x (Word y) v w row is = absurd row
 settle_off z d x (Upgraded s) v w row is = absurd row
@@ -295,7 +288,7 @@ settle_off z d x Done v w row is = absurd row
 settle_off z d x (Checked (Ok done)) v w row is = cc
 settle_off z d x (Checked (Err e)) v w row is = refl
 
-pub check_off : (z : Sizes) (d : Deed) (x : Stamp) (r : Answer) (v w : View) → Answers z (telling d) (Check x) r v w → passed r ≡ false → goes_on r ≡ false
+check_off : (z : Sizes) (d : Deed) (x : Stamp) (r : Answer) (v w : View) → Answers z (telling d) (Check x) r v w → passed r ≡ false → goes_on r ≡ false
 check_off z d x (Begun r) v w row is = absurd row
 check_off z d x (Word y) v w row is = absurd row
 check_off z d x (Upgraded s) v w row is = absurd row
@@ -303,129 +296,172 @@ check_off z d x Done v w row is = absurd row
 check_off z d x (Checked (Ok done)) v w row is = cc
 check_off z d x (Checked (Err e)) v w row is = refl
 
-pub place_off : (z : Sizes) (d : Deed) (found : Verdict) (t : Position) (r : Answer) (v w : View) → Answers z (telling d) (check_by found t) r v w → passed r ≡ false → goes_on r ≡ false
-place_off z d (Found l value) t r v w row is = settle_off z d t.stamp r v w row is
-place_off z d Empty t r v w row is = check_off z d t.stamp r v w row is
-place_off z d (LeafMismatch l at byte) t r v w row is = check_off z d t.stamp r v w row is
-place_off z d (PrefixMismatch n header at) t r v w row is = check_off z d t.stamp r v w row is
-place_off z d (NoChild n header) t r v w row is = check_off z d t.stamp r v w row is
-place_off z d Overlaps t r v w row is = check_off z d t.stamp r v w row is
-place_off z d Torn t r v w row is = check_off z d t.stamp r v w row is
-place_off z d Absent t r v w row is = check_off z d t.stamp r v w row is
+pub place_off : (z : Sizes) (d : Deed) (b : Bool) (x : Stamp) (r : Answer) (v w : View) → Answers z (telling d) (check_as b x) r v w → passed r ≡ false → goes_on r ≡ false
+place_off z d true x r v w row is = settle_off z d x r v w row is
+place_off z d false x r v w row is = check_off z d x r v w row is
 
 -- a leaf may come there, or it is known how the attempt ends
-pub place_comes : (z : Sizes) (k : List ℕ) (depth : ℕ) (x : Stamp) (d : Deed) (found : Verdict) (v w : View) → found ≢ Absent → entered_by found ≡ None → Says z k depth x found v
-    → check.Unchanged z v w x (told_by found d) → Comes found
-place_comes z k depth x d (Found l value) v w exact none says p = cc
-place_comes z k depth x d Empty v w exact none says p = tt
-place_comes z k depth x d (LeafMismatch l at byte) v w exact none says p = tt
-place_comes z k depth x d (PrefixMismatch n header at) v w exact none says p = tt
-place_comes z k depth x d (NoChild n header) v w exact none says p = tt
-place_comes z k depth x d Overlaps v w exact none says p = cc
-place_comes z k depth x d Torn v w exact none says p = absurd (says p.vouched.0 p.vouched.1 p.vouched.2)
-place_comes z k depth x d Absent v w exact none says p = absurd (exact refl)
+pub place_comes : (z : Sizes) (k : List ℕ) (depth : ℕ) (x : Stamp) (o : Option Deed) (found : Verdict) (v w : View) → found ≢ Absent → entered_by found ≡ None → Says z k depth x found v
+    → check.Unchanged z v w x o → Comes found
+place_comes z k depth x o (Found l value) v w exact none says p = cc
+place_comes z k depth x o Empty v w exact none says p = tt
+place_comes z k depth x o (LeafMismatch l at byte) v w exact none says p = tt
+place_comes z k depth x o (PrefixMismatch n header at) v w exact none says p = tt
+place_comes z k depth x o (NoChild n header) v w exact none says p = tt
+place_comes z k depth x o Overlaps v w exact none says p = cc
+place_comes z k depth x o Torn v w exact none says p = absurd (says p.vouched.0 p.vouched.1 p.vouched.2)
+place_comes z k depth x o Absent v w exact none says p = absurd (exact refl)
 
--- that no other place is told leaves what was only read
-told_nothing : (z : Sizes) (d : Deed) (found : Verdict) (x : Stamp) (v w : View) → Comes found → check.Unchanged z v w x (told_by found d) → OnlyReads v w
-told_nothing z d Empty x v w comes p = passed_rest z v w x p
-told_nothing z d (LeafMismatch l at byte) x v w comes p = passed_rest z v w x p
-told_nothing z d (PrefixMismatch n header at) x v w comes p = passed_rest z v w x p
-told_nothing z d (NoChild n header) x v w comes p = passed_rest z v w x p
-told_nothing z d (Found l value) x v w comes p = absurd comes
-told_nothing z d Overlaps x v w comes p = absurd comes
-told_nothing z d Torn x v w comes p = absurd comes
-told_nothing z d Absent x v w comes p = absurd comes
+-- ---- few steps
+
+pub within_more : (z : Sizes) (u : View) (n more : ℕ) (r : Room) (v : View) → n ≤ more → EndsWithin z u n r v → EndsWithin z u more r v
+within_more z u n more r v fewer so = record {
+  still = so.still;
+  spent = λ limited. (let spent = so.spent limited in omega (arith, spent, fewer));
+  has = so.has;
+}
+
+pub within_so : (z : Sizes) (u : View) (n : ℕ) (r : Room) (v : View) → n ≤ 22900 → EndsWithin z u n r v → EndsSo z u r v
+within_so z u n r v fewer so = within_more z u n 22900 r v fewer so
 
 -- until a place is settled few steps were made
-finding_few : (z : Sizes) (u : View) (m : Inserting) (r : Room) (v : View) → length r.row.key.items ≤ 64 → IsFinding z u m r v → HasSpent z u 1200 v
+finding_few : (z : Sizes) (u : View) (m : Attempt) (r : Room) (v : View) → length r.row.key.items ≤ 64 → IsFinding z u m r v → HasSpent z u 1200 v
 finding_few z u m r v short f limited =
-    let few = few_steps z r.row.key.items (present_of r.row) m.finding.descent.depth m.finding.descent.stage f.early v short f.going f.fits.descent in
+    let few = few_steps z r.row.key.items (settled_of m.job r.row) m.finding.descent.depth m.finding.descent.stage f.early v short f.going f.fits.descent in
     let spent = f.spent limited in
     omega (arith, few, spent)
 
-module _ (z : Sizes) (u : View) (m : Inserting) (r : Room) (v w : View) (short : length r.row.key.items ≤ 64) (f : IsFinding z u m r v) (later : IsLater v w) (one : w.steps ≤ v.steps + 1) where
+module _ (z : Sizes) (u : View) (m : Attempt) (r : Room) (v w : View) (short : length r.row.key.items ≤ 64) (f : IsFinding z u m r v) (later : IsLater v w) (one : w.steps ≤ v.steps + 1) where
   past : IsLater f.early w
   past = later_then f.early v w f.later later
 
-  pub finding_spent : HasSpent z u 1201 w
+  finding_spent : HasSpent z u 1201 w
   finding_spent limited =
       let spent = finding_few z u m r v short f limited in
       let more = later.failures in
       omega (arith, spent, one, more)
 
   -- the attempt ends, and nothing was told
-  pub ends_reading : OnlyReads f.early w → EndsSo z u r w
+  pub ends_reading : OnlyReads f.early w → EndsWithin z u 1201 r w
   ends_reading only = record {
     still = still_reads u f.early f.base w past only;
-    spent = λ limited. (let spent = finding_spent limited in omega (arith, spent));
+    spent = finding_spent;
     has = stock_reads z r.row.key.items r.row.value f.early w r.stock only f.has;
   }
 
-  module _ (t : Position) (s : StandsThere z r.row.key.items m.finding r.read_set f.early v t) (d : Deed) where
-    pub only_then : OnlyReads v w → OnlyReads f.early w
+  module _ (t : Position) (s : StandsThere z r.row.key.items m.finding r.read_set f.early v t) where
+    only_then : OnlyReads v w → OnlyReads f.early w
     only_then only = (reads_on f.early v w only s.reads).only
 
-    -- the check of the place succeeded
-    stood_there : (o : Option Deed) → check.Unchanged z v w t.stamp o → StoodAtCheck z u r.row.key.items t r.read_set w
-    stood_there o p = stood_then z v w t.stamp o p u r.row.key.items t r.read_set (still_later u f.early f.base v f.later).steps
-        (standing_grows z r.row.key.items t r.read_set v w (passed_grows z v w t.stamp o p) s.standing)
-
-    entered_there : (found : Verdict) (e : Entered) → t.verdict ≡ found → d ≡ present r.row (unwrap_or (value_of found) 0) → Says z r.row.key.items t.depth t.stamp found v
-        → check.Unchanged z v w t.stamp (told_by found d) → entered_by found ≡ Some e → EndFits z u t r e w
-    entered_there (Found l value) e here is says p at =
-        let q = subst (λ (b : Deed). check.Unchanged z v w t.stamp (Some b)) is p in
-        let k = told_rest z f.early v w t.stamp (present r.row value) s.reads.only q in
-        let present_there : IsPresent z u r value w = record {
-          event = event_since u f.early f.base w (present r.row value) k.0;
-          rest = rest_told u f.early f.base w k.1;
-          free = tells_free f.early w k.1 f.base.free;
-          later = still_later u f.early f.base w past;
-          has = stock_same z r.row.key.items r.row.value f.early w r.stock (ap (λ (o : Rest). o.hand) k.1) f.has;
-        } in
-        subst (λ (b : Entered). EndFits z u t r b w) (same_Some {A = Entered} (Present value) e at) present_there
-    entered_there Overlaps e here is says p at =
-        subst (λ (b : Entered). EndFits z u t r b w) (same_Some {A = Entered} overlaps e at)
-        (ends_reading (only_then (passed_rest z v w t.stamp p)), record { stood = stood_there None p; checked = check_is z v w t.stamp None p; overlaps = here })
-    entered_there Empty e here is says p at = cc
-    entered_there (LeafMismatch l i byte) e here is says p at = cc
-    entered_there (PrefixMismatch b header i) e here is says p at = cc
-    entered_there (NoChild b header) e here is says p at = cc
-    entered_there Torn e here is says p at = cc
-    entered_there Absent e here is says p at = cc
-
-    pub ends_there : (a : Answer) (e : Entered) → d ≡ present r.row (unwrap_or (value_of t.verdict) 0) → Answers z (telling d) (check_of t) a v w → passed a ≡ true
-        → entered_by t.verdict ≡ Some e → EndFits z u t r e w
-    ends_there a e is row on at = entered_there t.verdict e refl is s.standing.says (place_passed z d t.verdict t a v w row on) at
-
-    pub fails_there : (a : Answer) → Answers z (telling d) (check_of t) a v w → passed a ≡ false → EndsSo z u r w × (u.failures < w.failures)
-    fails_there a row off =
-        let more = cell_fails z d (check_of t) a v w (check_look t.verdict t) row (place_off z d t.verdict t a v w row off) in
+    pub fails_there : (d : Deed) (b : Bool) (a : Answer) → Answers z (telling d) (check_as b t.stamp) a v w → passed a ≡ false → EndsSo z u r w × (u.failures < w.failures)
+    fails_there d b a row off =
+        let more = cell_fails z d (check_as b t.stamp) a v w (check_look b t.stamp) row (place_off z d b t.stamp a v w row off) in
         let before = (still_later u f.early f.base v f.later).failures in
-        (ends_reading (only_then (place_failed z d t.verdict t a v w row off)), omega (arith, more, before))
+        (within_so z u 1201 r w (omega arith) (ends_reading (only_then (place_failed z d b t.stamp a v w row off))), omega (arith, more, before))
 
-    -- a leaf may come
-    module _ (a : Answer) (row : Answers z (telling d) (check_of t) a v w) (on : passed a ≡ true) (none : entered_by t.verdict ≡ None) where
-      unchanged : check.Unchanged z v w t.stamp (told_by t.verdict d)
-      unchanged = place_passed z d t.verdict t a v w row on
-
-      pub comes_there : Comes t.verdict
-      comes_there = place_comes z r.row.key.items t.depth t.stamp d t.verdict v w s.exact none s.standing.says unchanged
-
+    -- the check succeeded
+    module _ (o : Option Deed) (p : check.Unchanged z v w t.stamp o) where
       pub checked_still : IsCheckOf t.stamp w
-      checked_still = check_is z v w t.stamp (told_by t.verdict d) unchanged
-
-      pub stood_still : StoodAtCheck z u r.row.key.items t r.read_set w
-      stood_still = stood_there (told_by t.verdict d) unchanged
+      checked_still = check_is z v w t.stamp o p
 
       pub stands_still : IsStanding z r.row.key.items t r.read_set w
-      stands_still = standing_grows z r.row.key.items t r.read_set v w (passed_grows z v w t.stamp (told_by t.verdict d) unchanged) s.standing
+      stands_still = standing_grows z r.row.key.items t r.read_set v w (passed_grows z v w t.stamp o p) s.standing
 
-      pub ends_so : EndsSo z u r w
-      ends_so = ends_reading (only_then (told_nothing z d t.verdict t.stamp v w comes_there unchanged))
+      pub stood_still : StoodAtCheck z u r.row.key.items t r.read_set w
+      stood_still = stood_then z v w t.stamp o p u r.row.key.items t r.read_set (still_later u f.early f.base v f.later).steps stands_still
+
+      -- and told nothing
+      pub told_nothing : o ≡ None → EndsWithin z u 1201 r w
+      told_nothing none = ends_reading (only_then (passed_rest z v w t.stamp (subst (check.Unchanged z v w t.stamp) none p)))
+
+      -- or this
+      pub told_deed : (d : Deed) → o ≡ Some d → HasSettled z u r d w
+      told_deed d some =
+          let k = told_rest z f.early v w t.stamp d s.reads.only (subst (check.Unchanged z v w t.stamp) some p) in
+          record {
+            event = event_since u f.early f.base w d k.0;
+            rest = rest_told u f.early f.base w k.1;
+            free = tells_free f.early w k.1 f.base.free;
+            later = still_later u f.early f.base w past;
+            has = stock_same z r.row.key.items r.row.value f.early w r.stock (ap (λ (o : Rest). o.hand) k.1) f.has;
+          }
 
 -- the deed that the check of a place may tell
-pub deed_there : (m : Inserting) (r : Room) (t : Position) → position_at m.finding ≡ Some t → deed_at m r ≡ present r.row (unwrap_or (value_of t.verdict) 0)
-deed_there m r t is = ap (λ (o : Option Position). present r.row (value_found o)) is
+pub deed_there : (m : Attempt) (r : Room) (t : Position) → position_at m.finding ≡ Some t → deed_at m r ≡ settled_by m.job r.row (unwrap_or (value_of t.verdict) 0)
+deed_there m r t is = ap (λ (o : Option Position). settled_by m.job r.row (value_found o)) is
+
+-- a check that was made of the place that was found
+module _ (z : Sizes) (u : View) (m : Attempt) (r : Room) (v w : View) (short : length r.row.key.items ≤ 64) (p : WasPlaced z u m r v w) where
+  abbrev t : Position
+  t = m.position
+
+  there : StandsThere z r.row.key.items m.finding r.read_set p.finding.early v t
+  there = stands_there z r.row.key.items (settled_of m.job r.row) m.finding r.read_set p.finding.early v p.finding.fits p.finding.exact t p.there
+
+  abbrev told : Option Deed
+  told = told_as (settles m.job t.verdict) (deed_at m r)
+
+  pub placed_within : settles m.job t.verdict ≡ false → EndsWithin z u 1201 r w
+  placed_within none = told_nothing z u m r v w short p.finding p.later p.step t there told p.checked (ap (λ (b : Bool). told_as b (deed_at m r)) none)
+
+  pub placed_tells : (d : Deed) → settles m.job t.verdict ≡ true → deed_at m r ≡ d → HasSettled z u r d w
+  placed_tells d some is = told_deed z u m r v w short p.finding p.later p.step t there told p.checked d (ap (λ (b : Bool). told_as b (deed_at m r)) some ∙ ap (λ (e : Deed). Some e) is)
+
+  pub placed_standing : IsStanding z r.row.key.items t r.read_set w
+  placed_standing = stands_still z u m r v w short p.finding p.later p.step t there told p.checked
+
+  pub placed_stood : StoodAtCheck z u r.row.key.items t r.read_set w
+  placed_stood = stood_still z u m r v w short p.finding p.later p.step t there told p.checked
+
+  pub placed_checked : IsCheckOf t.stamp w
+  placed_checked = checked_still z u m r v w short p.finding p.later p.step t there told p.checked
+
+  -- a leaf may come
+  pub placed_comes : entered_by t.verdict ≡ None → ComesThere z u t r w
+  placed_comes none = record {
+    stood = placed_stood;
+    checked = placed_checked;
+    comes = place_comes z r.row.key.items t.depth t.stamp told t.verdict v w there.exact none there.standing.says p.checked;
+  }
+
+  -- how an insert ends at a place where no leaf may come
+  pub placed_ends : m.job ≡ Insert → (found : Verdict) → t.verdict ≡ found → (e : Ending) → entered_by found ≡ Some e → EndFits z u m r e w
+  placed_ends job (Found l value) is e at =
+      let so : settles m.job t.verdict ≡ true = ap (λ (j : Job). settles j t.verdict) job ∙ ap (settles Insert) is in
+      let deed : deed_at m r ≡ present r.row value =
+      deed_there m r t p.there ∙ (ap (λ (j : Job). settled_by j r.row (unwrap_or (value_of t.verdict) 0)) job ∙ ap (λ (f : Verdict). present r.row (unwrap_or (value_of f) 0)) is) in
+      subst (λ (b : Ending). EndFits z u m r b w) (same_Some {A = Ending} (Present value) e at) (job, placed_tells (present r.row value) so deed)
+  placed_ends job Overlaps is e at =
+      let so : settles m.job t.verdict ≡ false = ap (λ (j : Job). settles j t.verdict) job ∙ ap (settles Insert) is in
+      subst (λ (b : Ending). EndFits z u m r b w) (same_Some {A = Ending} overlaps e at)
+      (job, within_so z u 1201 r w (omega arith) (placed_within so), record { stood = placed_stood; checked = placed_checked; overlaps = is })
+  placed_ends job Empty is e at = cc
+  placed_ends job (LeafMismatch l i byte) is e at = cc
+  placed_ends job (PrefixMismatch b header i) is e at = cc
+  placed_ends job (NoChild b header) is e at = cc
+  placed_ends job Torn is e at = cc
+  placed_ends job Absent is e at = cc
+
+-- where no leaf may come but for an overlap, the check settles the answer of an insert; nothing else does
+pub insert_settles_not : (found : Verdict) → entered_by found ≡ None → settles Insert found ≡ false
+insert_settles_not (Found l value) none = cc
+insert_settles_not Empty none = refl
+insert_settles_not (LeafMismatch l i byte) none = refl
+insert_settles_not (PrefixMismatch b header i) none = refl
+insert_settles_not (NoChild b header) none = refl
+insert_settles_not Overlaps none = cc
+insert_settles_not Torn none = refl
+insert_settles_not Absent none = refl
+
+pub remove_settles_other : (found : Verdict) → ((l value : ℕ) → found ≡ Found l value → ⊥) → settles Remove found ≡ true
+remove_settles_other (Found l value) other = absurd (other l value refl)
+remove_settles_other Empty other = refl
+remove_settles_other (LeafMismatch l i byte) other = refl
+remove_settles_other (PrefixMismatch b header i) other = refl
+remove_settles_other (NoChild b header) other = refl
+remove_settles_other Overlaps other = refl
+remove_settles_other Torn other = refl
+remove_settles_other Absent other = refl
 
 -- ---- each step may be made
 
@@ -449,7 +485,7 @@ not_settling z d so v (StorePin word) none may = absurd may
 not_settling z d so v RaiseEpoch none may = absurd may
 not_settling z d so v (ReadPin q) none may = absurd may
 
-module _ (z : Sizes) (u : View) (m : Inserting) (r : Room) (v : View) (f : IsFinding z u m r v) where
+module _ (z : Sizes) (u : View) (m : Attempt) (r : Room) (v : View) (f : IsFinding z u m r v) where
   abbrev k : List ℕ
   k = r.row.key.items
 
@@ -457,35 +493,46 @@ module _ (z : Sizes) (u : View) (m : Inserting) (r : Room) (v : View) (f : IsFin
   so s = HasValue s k (answer_at m.finding.descent.stage)
 
   descent_allowed : (a : Action) → asks m.finding.descent.stage ≡ Some a → MayLook z so v a
-  descent_allowed a is = subst (λ (o : Option Action). IfSome o (MayLook z so v)) is (allowed z k (present_of r.row) m.finding.descent.depth m.finding.descent.stage f.early v f.fits.descent)
+  descent_allowed a is = subst (λ (o : Option Action). IfSome o (MayLook z so v)) is (allowed z k (settled_of m.job r.row) m.finding.descent.depth m.finding.descent.stage f.early v f.fits.descent)
 
   module _ (t : Position) (s : StandsThere z k m.finding r.read_set f.early v t) where
     plain : HasVersion z t.stamp.cell × check.May z v t.stamp None
     plain = (s.standing.stamp.inside, record { stamp = s.standing.stamp.stamp; tells = tt })
 
-    check_allowed : (found : Verdict) → t.verdict ≡ found → MayAsk z (present r.row (unwrap_or (value_of found) 0)) v (check_by found t)
-    check_allowed (Found l value) at =
-        let may = descent_allowed (Settle t.stamp) s.settles in
-        let shows : Shows z v t.stamp (λ c. HasValue c k (Some value)) =
-        subst (λ (o : Option ℕ). Shows z v t.stamp (λ c. HasValue c k o)) (s.answers ∙ ap value_of at) may.1.shows in
-        (may.0, record { stamp = may.1.stamp; tells = insert_settles z v t.stamp k r.row.value value shows })
-    check_allowed Empty at = plain
-    check_allowed (LeafMismatch l i byte) at = plain
-    check_allowed (PrefixMismatch n header i) at = plain
-    check_allowed (NoChild n header) at = plain
-    check_allowed Overlaps at = plain
-    check_allowed Torn at = plain
-    check_allowed Absent at = plain
+    shown : (o : Option ℕ) → value_of t.verdict ≡ o → Shows z v t.stamp (λ c. HasValue c k o)
+    shown o at = subst (λ (o : Option ℕ). Shows z v t.stamp (λ c. HasValue c k o)) (s.answers ∙ at) (descent_allowed (Settle t.stamp) s.settles).1.shows
 
-  place_allowed : (o : Option Position) (a : Action) → position_at m.finding ≡ o → asks_place o (asks m.finding.descent.stage) ≡ Some a → MayAsk z (deed_at m r) v a
+    settling : (j : Job) (found : Verdict) → t.verdict ≡ found → settles j found ≡ true → check.May z v t.stamp (Some (settled_by j r.row (unwrap_or (value_of found) 0)))
+    settling Insert (Found l value) at is = record { stamp = s.standing.stamp.stamp; tells = insert_settles z v t.stamp k r.row.value value (shown (Some value) (ap value_of at)) }
+    settling Insert Empty at is = cc
+    settling Insert (LeafMismatch l i byte) at is = cc
+    settling Insert (PrefixMismatch n header i) at is = cc
+    settling Insert (NoChild n header) at is = cc
+    settling Insert Overlaps at is = cc
+    settling Insert Torn at is = cc
+    settling Insert Absent at is = cc
+    settling Remove (Found l value) at is = cc
+    settling Remove Empty at is = record { stamp = s.standing.stamp.stamp; tells = remove_settles z v t.stamp k (shown None (ap value_of at)) }
+    settling Remove (LeafMismatch l i byte) at is = record { stamp = s.standing.stamp.stamp; tells = remove_settles z v t.stamp k (shown None (ap value_of at)) }
+    settling Remove (PrefixMismatch n header i) at is = record { stamp = s.standing.stamp.stamp; tells = remove_settles z v t.stamp k (shown None (ap value_of at)) }
+    settling Remove (NoChild n header) at is = record { stamp = s.standing.stamp.stamp; tells = remove_settles z v t.stamp k (shown None (ap value_of at)) }
+    settling Remove Overlaps at is = record { stamp = s.standing.stamp.stamp; tells = remove_settles z v t.stamp k (shown None (ap value_of at)) }
+    settling Remove Torn at is = record { stamp = s.standing.stamp.stamp; tells = remove_settles z v t.stamp k (shown None (ap value_of at)) }
+    settling Remove Absent at is = record { stamp = s.standing.stamp.stamp; tells = remove_settles z v t.stamp k (shown None (ap value_of at)) }
+
+    check_allowed : (b : Bool) → settles m.job t.verdict ≡ b → MayAsk z (settled_by m.job r.row (unwrap_or (value_of t.verdict) 0)) v (check_as b t.stamp)
+    check_allowed true is = (s.standing.stamp.inside, settling m.job t.verdict refl is)
+    check_allowed false is = plain
+
+  place_allowed : (o : Option Position) (a : Action) → position_at m.finding ≡ o → asks_place m.job o (asks m.finding.descent.stage) ≡ Some a → MayAsk z (deed_at m r) v a
   place_allowed (Some t) a at is =
-      let s = stands_there z k (present_of r.row) m.finding r.read_set f.early v f.fits f.exact t at in
-      let may : MayAsk z (deed_at m r) v (check_of t) = subst (λ (d : Deed). MayAsk z d v (check_of t)) (sym (deed_there m r t at)) (check_allowed t s t.verdict refl) in
-      subst (MayAsk z (deed_at m r) v) (same_Some {A = Action} (check_of t) a is) may
+      let s = stands_there z k (settled_of m.job r.row) m.finding r.read_set f.early v f.fits f.exact t at in
+      let may : MayAsk z (deed_at m r) v (check_of m.job t) = subst (λ (d : Deed). MayAsk z d v (check_of m.job t)) (sym (deed_there m r t at)) (check_allowed t s (settles m.job t.verdict) refl) in
+      subst (MayAsk z (deed_at m r) v) (same_Some {A = Action} (check_of m.job t) a is) may
   place_allowed None a at is =
       not_settling z (deed_at m r) so v a (place_plain m.finding.descent.stage (undecided m.finding at) a is) (descent_allowed a is)
 
-  pub finding_allowed : (a : Action) → finding_asks m.finding ≡ Some a → MayAsk z (deed_at m r) v a
+  pub finding_allowed : (a : Action) → finding_asks m.job m.finding ≡ Some a → MayAsk z (deed_at m r) v a
   finding_allowed a is = place_allowed (position_at m.finding) a refl is
 
 -- what may be asked of a place may be asked of a look, where it tells nothing of a row
@@ -510,8 +557,8 @@ may_look z d v RaiseEpoch may = absurd may
 may_look z d v (ReadPin q) may = absurd may
 
 -- where the place is known, its check is asked for
-pub asks_check : (m : Finding) (t : Position) → position_at m ≡ Some t → finding_asks m ≡ Some (check_of t)
-asks_check m t is = ap (λ (o : Option Position). asks_place o (asks m.descent.stage)) is
+pub asks_check : (j : Job) (m : Finding) (t : Position) → position_at m ≡ Some t → finding_asks j m ≡ Some (check_of j t)
+asks_check j m t is = ap (λ (o : Option Position). asks_place j o (asks m.descent.stage)) is
 
 -- ---- while it goes on a step is asked for
 
@@ -531,9 +578,9 @@ stage_asks (Bytes seen i r) going = (_, refl)
 stage_asks (Decided x found) going = (_, refl)
 stage_asks (Ended o) going = absurd (cc)
 
-place_asks : (o : Option Position) (s : Stage) → ended_at s ≡ None → (a : Action) × (asks_place o (asks s) ≡ Some a)
-place_asks (Some t) s going = (check_of t, refl)
-place_asks None s going = stage_asks s going
+place_asks : (j : Job) (o : Option Position) (s : Stage) → ended_at s ≡ None → (a : Action) × (asks_place j o (asks s) ≡ Some a)
+place_asks j (Some t) s going = (check_of j t, refl)
+place_asks j None s going = stage_asks s going
 
-pub finding_going : (m : Finding) → ended_at m.descent.stage ≡ None → (a : Action) × (finding_asks m ≡ Some a)
-finding_going m going = place_asks (position_at m) m.descent.stage going
+pub finding_going : (j : Job) (m : Finding) → ended_at m.descent.stage ≡ None → (a : Action) × (finding_asks j m ≡ Some a)
+finding_going j m going = place_asks j (position_at m) m.descent.stage going

@@ -1,35 +1,8 @@
 -- What the parts of an attempt ask for, and what each of them is told of the effects.
-use Rattle.std.proofs.Common.{◌≡◌, ◌∙◌, ◌+◌, ℕ, Bool, true, false, if◌then◌else◌, nat_lt, List, Option, Some, None, refl, ap, subst}
-use Rattle.std.proofs.lemmas.Option.{same_Some}
-use Rattle.std.specs.Option.{option_and_then}
-use Rattle.std.specs.Prelude.{⊤}
+use Rattle.std.proofs.Common.{◌≡◌, Option, Some, None, refl, subst}
 use Rattle.art_attempt.specs.Asking.{Answers, IsAllowed, MayAsk, given}
-use Rattle.art_attempt.specs.Inserting.{check_by}
-use Rattle.art_epoch.specs.Taking as taking
-use Rattle.art_epoch.specs.declared.taking.Search.{Search}
-use Rattle.art_epoch.specs.declared.taking.Search.TheVariants.{Looking, Clearing, Took}
-use Rattle.art_epoch.specs.declared.taking.Taking.{Taking}
-use Rattle.art_find.specs.Rereadings.{reads_next}
-use Rattle.art_find.specs.declared.findings.Above.{Above as CellAbove}
-use Rattle.art_find.specs.declared.findings.Position.{Position}
-use Rattle.art_find.specs.declared.rereadings.Rereading.{Rereading}
-use Rattle.art_find.specs.declared.verdicts.Verdict.{Verdict}
-use Rattle.art_find.specs.declared.verdicts.Verdict.TheVariants as verdict
-use Rattle.art_frame.specs.declared.stocks.Stock.{Stock}
 use Rattle.art_gather.proofs.Asked.{IsSupply}
-use Rattle.art_gather.specs.Lowering as lowering
-use Rattle.art_gather.specs.Reserve as reserve
-use Rattle.art_gather.specs.Reserve.{leaf_asked}
-use Rattle.art_gather.specs.Vouching as vouching
-use Rattle.art_gather.specs.Vouching.{above_checks, above_reads}
-use Rattle.art_gather.specs.declared.lowering.Lowering.{Lowering}
-use Rattle.art_gather.specs.declared.lowering.Lowering.TheVariants as lower
-use Rattle.art_gather.specs.declared.reserve.Reserve.{Reserve}
-use Rattle.art_gather.specs.declared.reserve.Reserve.TheVariants as supply
-use Rattle.art_gather.specs.declared.vouching.Vouching.{Vouching}
-use Rattle.art_gather.specs.declared.vouching.Vouching.TheVariants as vouch
 use Rattle.art_machine.proofs.AnswerKinds.{answers_any}
-use Rattle.art_machine.proofs.Counting.{steps_made}
 use Rattle.art_machine.specs.Acting as acting
 use Rattle.art_machine.specs.Acting.{IsLook, IsPlain, steps_in, telling}
 use Rattle.art_machine.specs.declared.actions.Action.{Action}
@@ -37,39 +10,16 @@ use Rattle.art_machine.specs.declared.actions.Action.TheVariants.{Begin, Read, R
 use Rattle.art_machine.specs.declared.actions.Answer.{Answer}
 use Rattle.art_machine.specs.declared.actions.Answer.TheVariants.{Begun, Word, Checked, Upgraded, Done}
 use Rattle.art_machine.specs.declared.actions.Effects.{Effects}
-use Rattle.art_make.proofs.Told.{map_some}
 use Rattle.art_make.proofs.Keeping.{IsMade}
 use Rattle.art_make.specs.Apply as apply
 use Rattle.art_make.specs.Apply.{put_into, releases}
-use Rattle.art_make.specs.declared.apply.Apply.{Apply}
-use Rattle.art_make.specs.declared.apply.Apply.TheVariants as make
-use Rattle.art_cell.specs.Leaves.{leaf_word}
-use Rattle.art_cell.specs.declared.cells.Cell.TheVariants as cell
-use Rattle.art_cell.specs.declared.cells.Node.{Node}
-use Rattle.art_plan.specs.Changes.{put_at, target_at}
-use Rattle.art_plan.specs.Whole.{made_at, made_word}
 use Rattle.art_plan.specs.declared.changes.Change.{Change as ChangeOf}
-use Rattle.art_plan.specs.declared.changes.Put.{Put}
-use Rattle.art_plan.specs.declared.changes.Target.{Target}
-use Rattle.std.specs.Option.{option_map}
-use Rattle.art_step.specs.Views.{size_of}
 use Rattle.art_step.specs.declared.deeds.Deed.{Deed}
 use Rattle.art_step.specs.declared.views.Sizes.{Sizes}
 use Rattle.art_step.specs.declared.views.Stamp.{Stamp}
 use Rattle.art_step.specs.declared.views.View.{View}
 
 -- ---- what is asked for
-
--- the check of a place is a look
-pub check_look : (found : Verdict) (t : Position) → IsLook (check_by found t)
-check_look (verdict.Found l value) t = tt
-check_look verdict.Empty t = tt
-check_look (verdict.LeafMismatch l at byte) t = tt
-check_look (verdict.PrefixMismatch n header at) t = tt
-check_look (verdict.NoChild n header) t = tt
-check_look verdict.Overlaps t = tt
-check_look verdict.Torn t = tt
-check_look verdict.Absent t = tt
 
 pub ask_looks : (z : Sizes) (d : Deed) (v : View) (a : Action) → MayAsk z d v a → IsLook a
 ask_looks z d v (Begin x) may = tt

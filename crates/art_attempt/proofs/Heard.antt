@@ -1,13 +1,13 @@
 -- A step of a finding was made and heard, beside the machine.
 use Rattle.std.proofs.Common.{◌≡◌, false, sym, subst, arith}
-use Rattle.art_attempt.proofs.Finds.{ends_reading, zero_going}
+use Rattle.art_attempt.proofs.Finds.{ends_reading, within_so, zero_going}
 use Rattle.art_attempt.proofs.Steps.{cell_fails, cell_later, cell_step}
 use Rattle.art_attempt.proofs.Tries.{later_then, still_later}
-use Rattle.art_attempt.specs.Inserting.{Fits, IsFinding, IsRoom, StageFits, deed_at, present_of}
-use Rattle.art_attempt.specs.declared.inserting.Entered.TheVariants.{Restart}
-use Rattle.art_attempt.specs.declared.inserting.Inserting.{Inserting}
-use Rattle.art_attempt.specs.declared.inserting.Stage.{Stage}
-use Rattle.art_attempt.specs.declared.inserting.Stage.TheVariants.{Finding, Ended}
+use Rattle.art_attempt.specs.Attempts.{Fits, IsFinding, IsRoom, StageFits, deed_at, settled_of}
+use Rattle.art_attempt.specs.declared.attempts.Ending.TheVariants.{Restart}
+use Rattle.art_attempt.specs.declared.attempts.Attempt.{Attempt}
+use Rattle.art_attempt.specs.declared.attempts.Stage.{Stage}
+use Rattle.art_attempt.specs.declared.attempts.Stage.TheVariants.{Finding, Ended}
 use Rattle.art_attempt.specs.declared.rooms.Room.{Room}
 use Rattle.art_find.proofs.Counting.{asks_look}
 use Rattle.art_find.proofs.Stages.{still_reading}
@@ -20,7 +20,7 @@ use Rattle.art_find.specs.declared.findings.Finding.{Finding as FindingOf}
 use Rattle.art_step.specs.declared.views.Sizes.{Sizes}
 use Rattle.art_step.specs.declared.views.View.{View}
 
-module _ (z : Sizes) (u : View) (m : Inserting) (r : Room) (v w : View) (room : IsRoom z r) (f : IsFinding z u m r v)
+module _ (z : Sizes) (u : View) (m : Attempt) (r : Room) (v w : View) (room : IsRoom z r) (f : IsFinding z u m r v)
     (asked : Action) (answer : Answer) (looked : WasLooked z m.finding asked answer v w)
     (n : FindingOf) (read_set : ReadSet) (heard : HasHeard z r.row.key.items answer m.finding r.read_set v n read_set w) where
   abbrev then : Room
@@ -39,16 +39,16 @@ module _ (z : Sizes) (u : View) (m : Inserting) (r : Room) (v w : View) (room : 
   pub ends_anew : goes_on answer ≡ false → Fits z u (record m { finding = n; stage = Ended Restart }) then w
   ends_anew off =
       let d = deed_at m r in
-      let what = present_of r.row in
+      let what = settled_of m.job r.row in
       let fits = heard.fits what f.early f.fits in
       let going = zero_going n.descent.depth n.descent.stage (heard.anew off) in
       let reads = still_reading z r.row.key.items what n.descent.depth n.descent.stage f.early w going fits.descent in
-      let so = ends_reading z u m r v w room.key.short f (cell_later z d asked answer v w one_look one_more) (cell_step z d asked answer v w one_look one_more) reads.only in
+      let so = within_so z u 1201 r w (omega arith) (ends_reading z u m r v w room.key.short f (cell_later z d asked answer v w one_look one_more) (cell_step z d asked answer v w one_look one_more) reads.only) in
       let more = cell_fails z d asked answer v w one_look one_more off in
       let before = (still_later u f.early f.base v f.later).failures in
       record { room = same_room; stage = (record { still = so.still; spent = so.spent; has = so.has }, omega (arith, more, before)) }
 
-module _ (z : Sizes) (u : View) (m : Inserting) (r : Room) (v : View) (room : IsRoom z r) (f : IsFinding z u m r v) (n : FindingOf) (read_set : ReadSet) (w : View) where
+module _ (z : Sizes) (u : View) (m : Attempt) (r : Room) (v : View) (room : IsRoom z r) (f : IsFinding z u m r v) (n : FindingOf) (read_set : ReadSet) (w : View) where
   -- it has gone on
   pub goes_on_so : WentOn z r.row.key.items m.finding r.read_set v n read_set w → IsFinding z u (record m { finding = n }) (record r { read_set = read_set }) w
   goes_on_so on =
@@ -61,28 +61,28 @@ module _ (z : Sizes) (u : View) (m : Inserting) (r : Room) (v : View) (room : Is
         later = later_then f.early v w f.later (record { steps = later; failures = omega (arith, failures) });
         spent = λ limited. (let spent = f.spent limited in omega (arith, spent, further, failures));
         has = f.has;
-        fits = on.fits (present_of r.row) f.early f.fits;
+        fits = on.fits (settled_of m.job r.row) f.early f.fits;
         going = on.going f.going;
         exact = on.exact f.exact;
       }
 
 -- the place is sought still, or its way was changed
-pub descends_so : (z : Sizes) (u : View) (m : Inserting) (r : Room) (v : View) (n : FindingOf) (read_set : ReadSet) (w : View) → m.stage ≡ Finding → Fits z u m r v → WentOn z r.row.key.items m.finding r.read_set v n read_set w
+pub descends_so : (z : Sizes) (u : View) (m : Attempt) (r : Room) (v : View) (n : FindingOf) (read_set : ReadSet) (w : View) → m.stage ≡ Finding → Fits z u m r v → WentOn z r.row.key.items m.finding r.read_set v n read_set w
     → Fits z u (record m { finding = n }) (record r { read_set = read_set }) w
 descends_so z u m r v n read_set w stage fits on =
     let f = subst (λ (s : Stage). StageFits z u s m r v) stage fits.stage in
-    let next : Inserting = record m { finding = n } in
+    let next : Attempt = record m { finding = n } in
     let then : Room = record r { read_set = read_set } in
     record {
       room = record { sizes = fits.room.sizes; key = fits.room.key };
       stage = subst (λ (s : Stage). StageFits z u s next then w) (sym stage) (goes_on_so z u m r v fits.room f n read_set w on);
     }
 
-pub comes_back : (z : Sizes) (u : View) (m : Inserting) (r : Room) (v : View) (n : FindingOf) (read_set : ReadSet) (w : View) → m.stage ≡ Finding → Fits z u m r v → CameBack z r.row.key.items m.finding r.read_set v n read_set w
+pub comes_back : (z : Sizes) (u : View) (m : Attempt) (r : Room) (v : View) (n : FindingOf) (read_set : ReadSet) (w : View) → m.stage ≡ Finding → Fits z u m r v → CameBack z r.row.key.items m.finding r.read_set v n read_set w
     → Fits z u (record m { finding = n; stage = Ended Restart }) (record r { read_set = read_set }) w
 comes_back z u m r v n read_set w stage fits back =
     let f = subst (λ (s : Stage). StageFits z u s m r v) stage fits.stage in
-    let middle : Inserting = record m { finding = back.middle } in
+    let middle : Attempt = record m { finding = back.middle } in
     let there : Room = record r { read_set = back.kept } in
     let room : IsRoom z there = record { sizes = fits.room.sizes; key = fits.room.key } in
     let l = back.back in

@@ -1,6 +1,6 @@
 -- What the pass knew at its last check is what it knows then; it and what was found stay so, and so do the grounds of a refusal.
 use Rattle.std.proofs.Common.{◌≡◌, ◌∙◌, ℕ, ◌≤◌, List, Option, inl, inr, refl, sym, ap, subst, arith, ⊎_elim}
-use Rattle.art_attempt.specs.Inserting.{IsFull, IsOverlap}
+use Rattle.art_attempt.specs.Attempts.{IsFull, IsOverlap}
 use Rattle.art_attempt.specs.Trying.{IsCheckOf, StoodAtCheck, at_check}
 use Rattle.art_attempt.specs.declared.rooms.Room.{Room}
 use Rattle.art_cell.specs.declared.layouts.Pool.{Pool}

@@ -2,11 +2,13 @@
 use Rattle.std.proofs.Common.{◌≡◌, ◌⊎◌, ℕ, ◌+◌, ◌-◌, ◌<◌, ◌≤◌, true, false, Option, Some, None, inl, inr, refl, ap, ◌∙◌, arith, ⊎_elim}
 use Rattle.std.proofs.lemmas.Bool.{cases_Bool, eq-eqb, eqb-true, eqb-false}
 use Rattle.std.specs.Prelude.{Result, Ok, Err, ⊤, ◌==◌}
-use Rattle.art_attempt.specs.Inserting.{ended_left, entered_so, free_at, held_left, is_last, last_left, left_at, apply_left, tries_left}
-use Rattle.art_attempt.specs.declared.inserting.Entered.TheVariants as entered
-use Rattle.art_attempt.specs.declared.inserting.Entered.TheVariants.{Restart}
-use Rattle.art_attempt.specs.declared.inserting.Stage.{Stage}
-use Rattle.art_attempt.specs.declared.inserting.Stage.TheVariants as stage
+use Rattle.art_attempt.specs.Attempts.{ended_left, ended_so, free_at, held_left, is_last, last_left, left_at, apply_left, tries_left}
+use Rattle.art_attempt.specs.declared.attempts.Ending.TheVariants as ending
+use Rattle.art_attempt.specs.declared.attempts.Ending.TheVariants.{Restart}
+use Rattle.art_attempt.specs.declared.attempts.Job.{Job}
+use Rattle.art_attempt.specs.declared.attempts.Job.TheVariants.{Insert, Remove}
+use Rattle.art_attempt.specs.declared.attempts.Stage.{Stage}
+use Rattle.art_attempt.specs.declared.attempts.Stage.TheVariants as stage
 use Rattle.art_make.specs.Apply.{Runs, asks, ended_at, fault_of, is_begun, most_steps}
 use Rattle.art_machine.specs.Acting.{steps_in}
 use Rattle.art_machine.specs.declared.actions.Action.{Action}
@@ -38,14 +40,18 @@ apply_free left m is = rw is refl
 pub free_few : (left : ℕ) (s : Stage) (m : Apply) → free_at s m ≡ true → left_at left s m ≤ tries_left left
 free_few left stage.Finding m is = omega arith
 free_few left stage.Reserve m is = omega arith
+free_few left (stage.Reading q) m is = omega arith
+free_few left stage.Lowering m is = omega arith
 free_few left stage.Vouching m is = omega arith
 free_few left stage.Apply m is = let same = apply_free left m is in omega arith
-free_few left (stage.Ended entered.New) m is = omega arith
-free_few left (stage.Ended (entered.Present x)) m is = omega arith
-free_few left (stage.Ended (entered.Full x)) m is = omega arith
-free_few left (stage.Ended (entered.Exhausted x)) m is = omega arith
-free_few left (stage.Ended entered.Overlaps) m is = omega arith
-free_few left (stage.Ended entered.Restart) m is = omega arith
+free_few left (stage.Ended ending.New) m is = omega arith
+free_few left (stage.Ended (ending.Present x)) m is = omega arith
+free_few left (stage.Ended (ending.Gone x)) m is = omega arith
+free_few left (stage.Ended ending.Absent) m is = omega arith
+free_few left (stage.Ended (ending.Full x)) m is = omega arith
+free_few left (stage.Ended (ending.Exhausted x)) m is = omega arith
+free_few left (stage.Ended ending.Overlaps) m is = omega arith
+free_few left (stage.Ended ending.Restart) m is = omega arith
 
 -- one step was made, and nothing is held after it
 pub free_less : (left n : ℕ) (s : Stage) (m : Apply) → 0 < left → n ≡ 1 → free_at s m ≡ true → left_at (left - n) s m < tries_left left
@@ -95,10 +101,11 @@ fault_ended (Ended (Ok done)) e is = absurd (cc)
 fault_ended (Ended (Err f)) e is = cc
 
 -- it is tried anew where the change was given up for a cell that was changed
-pub anew_fault : (r : Result ⊤ UpgradeFault) → entered_so r ≡ Restart → (e : Changed) × (r ≡ Err (fault.Changed e))
-anew_fault (Ok done) is = absurd (cc)
-anew_fault (Err (fault.Exhausted c)) is = absurd (cc)
-anew_fault (Err (fault.Changed e)) is = (e, refl)
+pub anew_fault : (j : Job) (value : ℕ) (r : Result ⊤ UpgradeFault) → ended_so j value r ≡ Restart → (e : Changed) × (r ≡ Err (fault.Changed e))
+anew_fault Insert value (Ok done) is = absurd (cc)
+anew_fault Remove value (Ok done) is = absurd (cc)
+anew_fault j value (Err (fault.Exhausted c)) is = absurd (cc)
+anew_fault j value (Err (fault.Changed e)) is = (e, refl)
 
 pub last_stays : (o p : Option UpgradeFault) → ((e : UpgradeFault) → o ≡ Some e → p ≡ Some e) → is_last o ≡ true → is_last p ≡ true
 last_stays None p stays is = cc
@@ -168,10 +175,11 @@ module _ (left n : ℕ) (m then : Apply) (begun : is_begun m ≡ true → 0 < le
       (cases_Bool (left - n == 0))
 
   -- it has ended
-  pub ended_less : (r : Result ⊤ UpgradeFault) → ended_at then ≡ Some r → ended_left (left - n) (entered_so r) < apply_left left m
-  ended_less (Ok done) is = some_left
-  ended_less (Err (fault.Exhausted e)) is = some_left
-  ended_less (Err (fault.Changed e)) is = anew_less (ap is_last (fault_ended then (fault.Changed e) is))
+  pub ended_less : (j : Job) (value : ℕ) (r : Result ⊤ UpgradeFault) → ended_at then ≡ Some r → ended_left (left - n) (ended_so j value r) < apply_left left m
+  ended_less Insert value (Ok done) is = some_left
+  ended_less Remove value (Ok done) is = some_left
+  ended_less j value (Err (fault.Exhausted e)) is = some_left
+  ended_less j value (Err (fault.Changed e)) is = anew_less (ap is_last (fault_ended then (fault.Changed e) is))
 
 -- ---- where more than one step was made
 
@@ -222,8 +230,8 @@ most_ended (GivingUp locked released e) r is = absurd (cc)
 
 module _ (left left' : ℕ) (v w : View) (m m' : Apply) (begun : is_begun m ≡ true → 0 < left) (run : Runs m m' v w left left') where
   -- it has ended
-  pub run_ended : (r : Result ⊤ UpgradeFault) → ended_at m' ≡ Some r → w.steps + ended_left left' (entered_so r) ≤ v.steps + apply_left left m
-  run_ended r is = by r is
+  pub run_ended : (j : Job) (value : ℕ) (r : Result ⊤ UpgradeFault) → ended_at m' ≡ Some r → w.steps + ended_left left' (ended_so j value r) ≤ v.steps + apply_left left m
+  run_ended j value r is = by j r is
     where
       few : w.steps + most_steps m ≤ v.steps + 580
       few = let end = most_ended m' r is in let all = run.few in omega (arith, all, end)
@@ -243,10 +251,11 @@ module _ (left left' : ℕ) (v w : View) (m m' : Apply) (begun : is_begun m ≡ 
           (λ (k : (apply_left left m ≡ left + 581) × (0 < left)). let at = k.0 in omega (arith, at, more, taken, later))
           (apply_is left m begun)
 
-      by : (r : Result ⊤ UpgradeFault) → ended_at m' ≡ Some r → w.steps + ended_left left' (entered_so r) ≤ v.steps + apply_left left m
-      by (Ok done) at = let all = none in omega (arith, all)
-      by (Err (fault.Exhausted e)) at = let all = none in omega (arith, all)
-      by (Err (fault.Changed e)) at = ⊎_elim
+      by : (j : Job) (r : Result ⊤ UpgradeFault) → ended_at m' ≡ Some r → w.steps + ended_left left' (ended_so j value r) ≤ v.steps + apply_left left m
+      by Insert (Ok done) at = let all = none in omega (arith, all)
+      by Remove (Ok done) at = let all = none in omega (arith, all)
+      by j (Err (fault.Exhausted e)) at = let all = none in omega (arith, all)
+      by j (Err (fault.Changed e)) at = ⊎_elim
           (λ (z : (left' == 0) ≡ true). let all = none in rw z (omega (arith, all)))
           (λ (z : (left' == 0) ≡ false). let not = eqb-false left' 0 z in rw z (again (ap is_last (fault_ended m' (fault.Changed e) at)) (omega (arith, not))))
           (cases_Bool (left' == 0))

@@ -1,12 +1,14 @@
 -- Where no admitted key begins another, no attempt ends as an overlap: at the check of the place a tree would have two such keys.
-use Rattle.std.proofs.Common.{◌≡◌, ◌∙◌, ℕ, true, List, Option, Some, ⊎_elim, refl, sym, ap, subst}
+use Rattle.std.proofs.Common.{◌≡◌, ◌∙◌, ℕ, Bool, true, false, List, Option, Some, ⊎_elim, refl, sym, ap, subst}
 use Rattle.std.specs.Prelude.{⊤, Result, Ok, Err}
 use Rattle.std.proofs.lemmas.Option.{same_Some}
 use Rattle.art_attempt.proofs.Finds.{stands_there}
-use Rattle.art_attempt.specs.Inserting.{Fits, IsFinding, IsOverlapBy, StageFits, asks, asks_at, asks_place, check_by, entered_by, entered_so, present_of}
-use Rattle.art_attempt.specs.declared.inserting.Entered.TheVariants.{Overlaps as overlaps}
-use Rattle.art_attempt.specs.declared.inserting.Inserting.{Inserting}
-use Rattle.art_attempt.specs.declared.inserting.Stage.{Stage}
+use Rattle.art_attempt.specs.Attempts.{Fits, IsFinding, IsOverlapBy, StageFits, asks, asks_at, asks_place, check_as, ended_so, entered_by, settled_of, settles}
+use Rattle.art_attempt.specs.declared.attempts.Ending.TheVariants.{Overlaps as overlaps}
+use Rattle.art_attempt.specs.declared.attempts.Attempt.{Attempt}
+use Rattle.art_attempt.specs.declared.attempts.Job.{Job}
+use Rattle.art_attempt.specs.declared.attempts.Job.TheVariants.{Insert, Remove}
+use Rattle.art_attempt.specs.declared.attempts.Stage.{Stage}
 use Rattle.art_attempt.specs.declared.rooms.Room.{Room}
 use Rattle.art_find.specs.Descents as descents
 use Rattle.art_find.specs.Verdicts.{HasOverlap, Says}
@@ -40,24 +42,26 @@ overlap_there Torn is = cc
 overlap_there Absent is = cc
 
 -- nor where a change was made or given up
-pub made_apart : (made : Result ⊤ UpgradeFault) → entered_so made ≡ overlaps → ⊥
-made_apart (Ok done) is = cc
-made_apart (Err (fault.Changed e)) is = cc
-made_apart (Err (fault.Exhausted c)) is = cc
+pub made_apart : (j : Job) (value : ℕ) (made : Result ⊤ UpgradeFault) → ended_so j value made ≡ overlaps → ⊥
+made_apart Insert value (Ok done) is = cc
+made_apart Remove value (Ok done) is = cc
+made_apart j value (Err (fault.Changed e)) is = cc
+made_apart j value (Err (fault.Exhausted c)) is = cc
 
 -- an overlap comes by the answer to a check, whose stamp shows one
-pub overlap_checked : (z : Sizes) (u v : View) (m : Inserting) (r : Room) (asked : Action) (answer : Answer) → Fits z u m r v → asks m r ≡ Some asked → IsOverlapBy m answer
+pub overlap_checked : (z : Sizes) (u v : View) (m : Attempt) (r : Room) (asked : Action) (answer : Answer) → Fits z u m r v → asks m r ≡ Some asked → IsOverlapBy m answer
     → (x : Stamp) × (asked ≡ Check x) × Shows z v x (λ s. HasOverlap s r.row.key.items)
 overlap_checked z u v m r asked answer fits at o =
     let k = r.row.key.items in
     let t = o.position in
     let f : IsFinding z u m r v = subst (λ (s : Stage). StageFits z u s m r v) o.finding fits.stage in
-    let there = stands_there z k (present_of r.row) m.finding r.read_set f.early v f.fits f.exact t o.there in
+    let there = stands_there z k (settled_of m.job r.row) m.finding r.read_set f.early v f.fits f.exact t o.there in
     let says : Says z k t.depth t.stamp Overlaps v = subst (λ (found : Verdict). Says z k t.depth t.stamp found v) o.overlaps there.standing.says in
+    let so : settles m.job t.verdict ≡ false = ap (λ (j : Job). settles j t.verdict) o.job ∙ ap (settles Insert) o.overlaps in
     let checks : asks m r ≡ Some (Check t.stamp) =
     ap (λ (s : Stage). asks_at s m r) o.finding
-    ∙ (ap (λ (p : Option Position). asks_place p (descents.asks m.finding.descent.stage)) o.there
-    ∙ ap (λ (found : Verdict). Some (check_by found t)) o.overlaps) in
+    ∙ (ap (λ (p : Option Position). asks_place m.job p (descents.asks m.finding.descent.stage)) o.there
+    ∙ ap (λ (b : Bool). Some (check_as b t.stamp)) so) in
     (t.stamp, same_Some {A = Action} asked (Check t.stamp) (sym at ∙ checks), says)
 
 module _ (A : List ℕ → Type 0) (z : Sizes) (v : View) where
@@ -80,7 +84,7 @@ module _ (A : List ℕ → Type 0) (z : Sizes) (v : View) where
       (λ (front : Begins k o.key). o.other (sym (apart k o.key is other front)))
       o.overlaps
 
-  pub never_overlaps : AreApart A → (u : View) (m : Inserting) (r : Room) → Fits z u m r v → A r.row.key.items → (asked : Action) (answer : Answer) → asks m r ≡ Some asked → PassesAmong A z v asked answer → IsOverlapBy m answer
+  pub never_overlaps : AreApart A → (u : View) (m : Attempt) (r : Room) → Fits z u m r v → A r.row.key.items → (asked : Action) (answer : Answer) → asks m r ≡ Some asked → PassesAmong A z v asked answer → IsOverlapBy m answer
       → ⊥
   never_overlaps apart u m r fits is asked answer at among o =
       let c = overlap_checked z u v m r asked answer fits at o in

@@ -1,21 +1,12 @@
 -- No step of an attempt goes back in time, nor does a failure.
-use Rattle.std.proofs.Common.{◌≡◌, ◌+◌, ◌<◌, ◌≤◌, Bool, true, false, Some, sym, ap, subst, arith}
-use Rattle.std.specs.Prelude.{Ok, Err}
+use Rattle.std.proofs.Common.{◌≡◌, ◌+◌, ◌<◌, ◌≤◌, Bool, true, false, subst, arith}
 use Rattle.art_attempt.specs.Trying.{IsLater}
 use Rattle.art_machine.proofs.Counting.{Counted, look_counts}
-use Rattle.art_machine.specs.Acting.{Answers, IsAllowed, IsLook, goes_on, telling}
+use Rattle.art_machine.specs.Acting.{Answers, IsLook, goes_on, telling}
 use Rattle.art_machine.specs.declared.actions.Action.{Action}
-use Rattle.art_machine.specs.declared.actions.Action.TheVariants.{Begin, Read, ReadLeaf, Check, Settle, Upgrade, Claim, Write, WriteLeaf, Commit, Release}
-use Rattle.art_machine.specs.declared.actions.Action.TheVariants.{ClearBit, GiveBack, Free, ReadEpoch, StorePin, RaiseEpoch, ReadPin}
 use Rattle.art_machine.specs.declared.actions.Answer.{Answer}
-use Rattle.art_machine.specs.declared.actions.Answer.TheVariants.{Begun, Word, Checked, Upgraded, Done}
-use Rattle.art_machine.specs.declared.actions.Effects.{Effects}
-use Rattle.art_step.specs.Steps.Upgrade as upgrade
 use Rattle.art_step.specs.declared.deeds.Deed.{Deed}
-use Rattle.art_step.specs.declared.faults.UpgradeFault.{UpgradeFault}
-use Rattle.art_step.specs.declared.faults.UpgradeFault.TheVariants as fault
 use Rattle.art_step.specs.declared.views.Sizes.{Sizes}
-use Rattle.art_step.specs.declared.views.Stamp.{Stamp}
 use Rattle.art_step.specs.declared.views.View.{View}
 
 pub counted_later : (v w : View) (on : Bool) → Counted v w on → IsLater v w

@@ -1,6 +1,6 @@
-//! What stands beside an attempt of an insert or a removal.
+//! What stands beside an attempt of a write.
 ghost use Rattle.std.specs.Prelude.{◌≡◌, ◌≤◌, Some, length};
-ghost use Rattle.art_attempt.specs.Rooms.{number_for, spent_by, demand_of};
+ghost use Rattle.art_attempt.specs.Rooms.{number_for, spent_by};
 ghost use Rattle.art_attempt.specs.Trying.{IsKey};
 ghost use Rattle.art_plan.specs.Changes.{leaf_linked, node_made};
 ghost use Rattle.art_frame.specs.Stocks.{AreIn, first_hints, nothing};
@@ -8,21 +8,20 @@ ghost use Rattle.art_make.specs.Apply.{linked};
 
 use arrayvec::ArrayVec;
 use art_cell::{Body, Layout, Reads, Writes};
-use art_find::{ReadSet, Verdict};
+use art_find::ReadSet;
 use art_frame::Stock;
-use art_gather::Demand;
 use art_key::{Bound, Key};
 use art_machine::Effects;
-use art_plan::{Bodies, Change, NewLeaf, OldLeaf, needed};
+use art_plan::{Bodies, Change, NewLeaf, OldLeaf};
 use art_step::{Deed, Sizes};
 
-/// What stands beside an attempt of an insert or a removal: the row that comes or the leaf that goes, the numbers in hand, the words
-/// that were read, and the change that is planned of them. It is large, and never copied.
+/// What stands beside an attempt of a write: the row, the leaf that goes, the numbers in hand, the words that were read, and the change
+/// that is planned of them. It is large, and never copied.
 #[derive(Drop)]
 pub struct Room {
-    /// The row that comes; the leaf has its number once a change is planned.
+    /// The row that comes, and its leaf has its number once a change is planned; of a row that goes the key, with the value 0.
     pub row: NewLeaf,
-    /// The leaf that goes; it has its number and its value once it is found.
+    /// The leaf that goes, once it is found.
     pub gone: OldLeaf,
     pub sizes: Sizes,
     pub stock: Stock,
@@ -54,7 +53,7 @@ impl Room {
         }
     }
 
-    /// This row comes.
+    /// The write is of this row.
     pub fn set(&mut self, key: &Key, value: u64)
         ensures key { IsKey key.now.items }
         ensures row { self.new ≡ record self.old { row = record { number = self.old.row.number; key = key.now; value = value } } }
@@ -63,12 +62,16 @@ impl Room {
         self.row.value = value;
     }
 
-    /// The leaf with this key goes; its number and value come once it is found.
-    pub fn set_gone(&mut self, key: &Key)
-        ensures key { IsKey key.now.items }
-        ensures gone { self.new ≡ record self.old { gone = record self.old.gone { key = key.now } } }
+    /// The leaf with the row's key was found, with this number and this value.
+    pub(crate) fn found(&mut self, number: u32, value: u64)
+        requires { length self.old.row.key.items ≤ 64 }
+        ensures { self.new ≡ record self.old { gone = record { number = number; key = self.old.row.key; value = value } } }
     {
-        self.gone.key = copied(key.as_slice());
+        self.gone = OldLeaf {
+            number,
+            key: copied(self.row.key.as_slice()),
+            value,
+        };
     }
 
     /// The number of a node of the layout, and 0 where none is in hand or none is needed.
@@ -145,16 +148,5 @@ fn no_change() -> Change {
         body: no_body(),
         copy: None,
         effects: Effects::telling(Deed::Look(Key::new(), Bound::End, None)),
-    }
-}
-
-/// What an insert wants in hand, by where its key stands.
-pub(crate) fn demand_of(sizes: Sizes, verdict: &Verdict) -> Demand
-    ensures { result ≡ demand_of sizes verdict.now }
-{
-    Demand {
-        leaf: true,
-        node: needed(verdict).node,
-        sizes,
     }
 }

@@ -2,7 +2,6 @@
 pub use Rattle.art_change.proofs.ArtAttempt
 pub use Rattle.art_change.proofs as ArtChange
 pub use Rattle.art_change.proofs.ArtPlan
-pub use Rattle.art_change.proofs.ArtErase
 pub use Rattle.art_change.proofs.ArtFind
 pub use Rattle.art_frame.proofs as ArtFrame
 pub use Rattle.art_seek.proofs.ArtLook

@@ -1,5 +1,5 @@
 -- A write that has ended, as its call sees it.
-use Rattle.std.proofs.Common.{◌≡◌, ◌+◌, ◌≤◌, ℕ, true, List, refl, ap, ◌∙◌, subst}
+use Rattle.std.proofs.Common.{◌≡◌, ◌+◌, ◌≤◌, ℕ, true, List, refl, sym, ap, ◌∙◌, subst}
 use Rattle.arrayvec.specs.ArrayVec.{ArrayVec}
 use Rattle.art_change.specs.ArtAttempt.declared.rooms.Room.{Room}
 use Rattle.art_call.specs.Calls.{GoesOn, Get, HasCalled, Insert, IsCaller, IsGround, IsWriting, Look, Remove, Wish, may_end, told_by}
@@ -7,13 +7,11 @@ use Rattle.art_call.specs.Outcomes.{of_write}
 use Rattle.art_call.specs.declared.callers.Call.TheVariants as call
 use Rattle.art_call.specs.declared.callers.Caller.{Caller}
 use Rattle.art_call.specs.declared.outcomes.Outcome.TheVariants.{Busy as is_busy}
-use Rattle.art_change.specs.Tries.{key_of, value_of}
 use Rattle.art_change.specs.Writes as writes
 use Rattle.art_change.specs.Writes.{Fits, HasAnswered, HasCounted, HasGround, HasOutcome, IsDone, IsReady, UsedTurns}
-use Rattle.art_change.specs.declared.tries.Job.{Job}
-use Rattle.art_change.specs.declared.tries.Job.TheVariants as job
-use Rattle.art_change.specs.declared.tries.Trying.{Trying}
-use Rattle.art_change.specs.declared.tries.Trying.TheVariants.{Inserting, Erasing}
+use Rattle.art_change.specs.ArtAttempt.declared.attempts.Job.{Job}
+use Rattle.art_change.specs.ArtAttempt.declared.attempts.Job.TheVariants as job
+use Rattle.art_change.specs.ArtAttempt.declared.attempts.Attempt.{Attempt}
 use Rattle.art_change.specs.declared.writes.Outcome.{Outcome}
 use Rattle.art_change.specs.declared.writes.Outcome.TheVariants.{New, Present, Gone, Absent, Full, Exhausted, Overlaps, Busy, Crowded}
 use Rattle.art_change.specs.declared.writes.Write.{Write}
@@ -62,35 +60,29 @@ busy_told (Crowded b) is = cc
 -- ---- how it may end
 
 module _ (z : Sizes) (u : View) (r : Room) (left : ℕ) (v : View) where
-  insert_not_gone : (t : Trying) (had : ℕ) → HasOutcome z u job.Insert t r (Gone had) left v → ⊥
-  insert_not_gone (Inserting m) had fits = fits
-  insert_not_gone (Erasing m) had fits = fits
+  insert_not_gone : (t : Attempt) (had : ℕ) → HasOutcome z u job.Insert t r (Gone had) left v → ⊥
+  insert_not_gone t had h = let no : job.Insert ≡ job.Remove = sym h.job ∙ h.fits.0 in cc
 
-  insert_not_absent : (t : Trying) → HasOutcome z u job.Insert t r Absent left v → ⊥
-  insert_not_absent (Inserting m) fits = fits
-  insert_not_absent (Erasing m) fits = fits
+  insert_not_absent : (t : Attempt) → HasOutcome z u job.Insert t r Absent left v → ⊥
+  insert_not_absent t h = let no : job.Insert ≡ job.Remove = sym h.job ∙ h.fits.0 in cc
 
-  remove_not_new : (t : Trying) → HasOutcome z u job.Remove t r New left v → ⊥
-  remove_not_new (Inserting m) fits = fits
-  remove_not_new (Erasing m) fits = fits
+  remove_not_new : (t : Attempt) → HasOutcome z u job.Remove t r New left v → ⊥
+  remove_not_new t h = let no : job.Remove ≡ job.Insert = sym h.job ∙ h.fits.0 in cc
 
-  remove_not_present : (t : Trying) (stands : ℕ) → HasOutcome z u job.Remove t r (Present stands) left v → ⊥
-  remove_not_present (Inserting m) stands fits = fits
-  remove_not_present (Erasing m) stands fits = fits
+  remove_not_present : (t : Attempt) (stands : ℕ) → HasOutcome z u job.Remove t r (Present stands) left v → ⊥
+  remove_not_present t stands h = let no : job.Remove ≡ job.Insert = sym h.job ∙ h.fits.0 in cc
 
-  remove_not_full : (t : Trying) → (pool : _) → HasOutcome z u job.Remove t r (Full pool) left v → ⊥
-  remove_not_full (Inserting m) pool fits = fits
-  remove_not_full (Erasing m) pool fits = fits
+  remove_not_full : (t : Attempt) → (pool : _) → HasOutcome z u job.Remove t r (Full pool) left v → ⊥
+  remove_not_full t pool h = let no : job.Remove ≡ job.Insert = sym h.job ∙ h.fits.0 in cc
 
-  remove_not_overlaps : (t : Trying) → HasOutcome z u job.Remove t r Overlaps left v → ⊥
-  remove_not_overlaps (Inserting m) fits = fits
-  remove_not_overlaps (Erasing m) fits = fits
+  remove_not_overlaps : (t : Attempt) → HasOutcome z u job.Remove t r Overlaps left v → ⊥
+  remove_not_overlaps t h = let no : job.Remove ≡ job.Insert = sym h.job ∙ h.fits.0 in cc
 
 module _ (z : Sizes) (u : View) (ps : List Place) (m : Write) (r : Room) (qs : List Place) (v : View) where
-  same_outcome : (j : Job) (o : Outcome) → m.job ≡ j → m.outcome ≡ o → (began : View) (s : Room) (left : ℕ) (w : View) → HasOutcome z began m.job m.trying s m.outcome left w
-      → HasOutcome z began j m.trying s o left w
+  same_outcome : (j : Job) (o : Outcome) → m.job ≡ j → m.outcome ≡ o → (began : View) (s : Room) (left : ℕ) (w : View) → HasOutcome z began m.job m.attempt s m.outcome left w
+      → HasOutcome z began j m.attempt s o left w
   same_outcome j o is so began s left w fits =
-      subst (λ (a : Outcome). HasOutcome z began j m.trying s a left w) so (subst (λ (i : Job). HasOutcome z began i m.trying s m.outcome left w) is fits)
+      subst (λ (a : Outcome). HasOutcome z began j m.attempt s a left w) so (subst (λ (i : Job). HasOutcome z began i m.attempt s m.outcome left w) is fits)
 
   insert_may : (k : ArrayVec ℕ) (value : ℕ) (o : Outcome) → m.job ≡ job.Insert → m.outcome ≡ o → IsDone z u ps o m r qs v → may_end (Insert k value) (of_write o) ≡ true
   insert_may k value New is so done = refl
@@ -103,11 +95,11 @@ module _ (z : Sizes) (u : View) (ps : List Place) (m : Write) (r : Room) (qs : L
   insert_may k value (Gone had) is so done =
       let d = done.0 in
       let s = record r { stock = d.stock } in
-      absurd (insert_not_gone z d.began s m.left d.ended m.trying had (same_outcome job.Insert (Gone had) is so d.began s m.left d.ended d.outcome))
+      absurd (insert_not_gone z d.began s m.left d.ended m.attempt had (same_outcome job.Insert (Gone had) is so d.began s m.left d.ended d.outcome))
   insert_may k value Absent is so done =
       let d = done.0 in
       let s = record r { stock = d.stock } in
-      absurd (insert_not_absent z d.began s m.left d.ended m.trying (same_outcome job.Insert Absent is so d.began s m.left d.ended d.outcome))
+      absurd (insert_not_absent z d.began s m.left d.ended m.attempt (same_outcome job.Insert Absent is so d.began s m.left d.ended d.outcome))
 
   remove_may : (k : ArrayVec ℕ) (o : Outcome) → m.job ≡ job.Remove → m.outcome ≡ o → IsDone z u ps o m r qs v → may_end (Remove k) (of_write o) ≡ true
   remove_may k (Gone had) is so done = refl
@@ -118,25 +110,25 @@ module _ (z : Sizes) (u : View) (ps : List Place) (m : Write) (r : Room) (qs : L
   remove_may k New is so done =
       let d = done.0 in
       let s = record r { stock = d.stock } in
-      absurd (remove_not_new z d.began s m.left d.ended m.trying (same_outcome job.Remove New is so d.began s m.left d.ended d.outcome))
+      absurd (remove_not_new z d.began s m.left d.ended m.attempt (same_outcome job.Remove New is so d.began s m.left d.ended d.outcome))
   remove_may k (Present stands) is so done =
       let d = done.0 in
       let s = record r { stock = d.stock } in
-      absurd (remove_not_present z d.began s m.left d.ended m.trying stands (same_outcome job.Remove (Present stands) is so d.began s m.left d.ended d.outcome))
+      absurd (remove_not_present z d.began s m.left d.ended m.attempt stands (same_outcome job.Remove (Present stands) is so d.began s m.left d.ended d.outcome))
   remove_may k (Full pool) is so done =
       let d = done.0 in
       let s = record r { stock = d.stock } in
-      absurd (remove_not_full z d.began s m.left d.ended m.trying pool (same_outcome job.Remove (Full pool) is so d.began s m.left d.ended d.outcome))
+      absurd (remove_not_full z d.began s m.left d.ended m.attempt pool (same_outcome job.Remove (Full pool) is so d.began s m.left d.ended d.outcome))
   remove_may k Overlaps is so done =
       let d = done.0 in
       let s = record r { stock = d.stock } in
-      absurd (remove_not_overlaps z d.began s m.left d.ended m.trying (same_outcome job.Remove Overlaps is so d.began s m.left d.ended d.outcome))
+      absurd (remove_not_overlaps z d.began s m.left d.ended m.attempt (same_outcome job.Remove Overlaps is so d.began s m.left d.ended d.outcome))
 
 -- ---- what a client sees
 
 -- what a write says when it has ended so
 pub record Says (m : Write) (o : Outcome) : Type 0 where
-  pub answered : (z : Sizes) (u v : View) (ps qs : List Place) (r : Room) → Fits z u ps m r qs v → HasAnswered z u m.job o (key_of m.job r) (value_of m.job r) qs v
+  pub answered : (z : Sizes) (u v : View) (ps qs : List Place) (r : Room) → Fits z u ps m r qs v → HasAnswered z u m.job o r.row.key r.row.value qs v
   pub counted : (z : Sizes) (u v : View) (ps qs : List Place) (r : Room) → Fits z u ps m r qs v → HasCounted z u m.turns m.restarts o v
   pub grounds : (z : Sizes) (u v : View) (ps qs : List Place) (r : Room) → Fits z u ps m r qs v → HasGround z u m.job ps m.turns m.restarts o r qs v
   pub ready : (z : Sizes) (u v : View) (own : ℕ) (ps qs : List Place) (s : Stock) (r : Room) → IsReady z u own ps s → Fits z u ps m r qs v → IsReady z v own qs r.stock
@@ -147,14 +139,8 @@ module _ (z : Sizes) (u : View) (c : Caller) (m : Write) (v : View) (o : Outcome
     tells =
         let a = says.answered z u v on.waited (places_of c.limbo) c.room on.fits in
         subst (λ (i : Job). SeesEvent u v (writes.told_by o i k value)) on.job_is
-        (subst (λ (n : ℕ). SeesEvent u v (writes.told_by o m.job k n)) (same_value on)
-        (subst (λ (q : ArrayVec ℕ). SeesEvent u v (writes.told_by o m.job q (value_of m.job c.room))) (same_key on) a.tells))
-      where
-        same_key : IsWriting z j k value turns u c m v → key_of m.job c.room ≡ k
-        same_key on = ap (λ (i : Job). key_of i c.room) on.job_is ∙ on.key_is
-
-        same_value : IsWriting z j k value turns u c m v → value_of m.job c.room ≡ value
-        same_value on = ap (λ (i : Job). value_of i c.room) on.job_is ∙ on.value_is
+        (subst (λ (n : ℕ). SeesEvent u v (writes.told_by o m.job k n)) on.value_is
+        (subst (λ (q : ArrayVec ℕ). SeesEvent u v (writes.told_by o m.job q c.room.row.value)) on.key_is a.tells))
 
     ground : IsGround z j turns m.restarts u c (of_write o) v
     ground =
@@ -171,7 +157,7 @@ module _ (z : Sizes) (u : View) (c : Caller) (m : Write) (v : View) (o : Outcome
             outcome_is = g.outcome_is;
             done = g.done;
             refused = g.refused;
-            erased = g.erased;
+            changed = g.changed;
           };
         }
 

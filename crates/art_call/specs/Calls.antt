@@ -8,12 +8,11 @@ use Rattle.art_call.specs.declared.callers.Call.TheVariants as call
 use Rattle.art_call.specs.declared.callers.Caller.{Caller}
 use Rattle.art_call.specs.declared.outcomes.Outcome.{Outcome}
 use Rattle.art_call.specs.declared.outcomes.Outcome.TheVariants as outcome
-use Rattle.art_change.specs.Tries.{key_of, value_of}
 use Rattle.art_change.specs.Writes as writes
 use Rattle.art_change.specs.Writes.{HasGround, IsApart, IsReady, WillRefuse}
 pub use Rattle.art_change.specs.Writes.{HoldsOrTold, IsFresh}
-use Rattle.art_change.specs.declared.tries.Job.{Job}
-use Rattle.art_change.specs.declared.tries.Job.TheVariants as job
+use Rattle.art_change.specs.ArtAttempt.declared.attempts.Job.{Job}
+use Rattle.art_change.specs.ArtAttempt.declared.attempts.Job.TheVariants as job
 use Rattle.art_change.specs.declared.writes.Outcome.{Outcome as WriteOutcome}
 use Rattle.art_change.specs.declared.writes.Write.{Write}
 use Rattle.art_epoch.specs.Limbo.{places_of}
@@ -108,8 +107,8 @@ pub record IsCaller (z : Sizes) (u : View) (c : Caller) : Type 0 where
 pub record IsWriting (z : Sizes) (j : Job) (k : ArrayVec ℕ) (value turns : ℕ) (u : View) (c : Caller) (m : Write) (v : View) : Type 0 where
   pub job_is : m.job ≡ j
   pub turns_are : m.turns ≡ turns
-  pub key_is : key_of j c.room ≡ k
-  pub value_is : value_of j c.room ≡ value
+  pub key_is : c.room.row.key ≡ k
+  pub value_is : c.room.row.value ≡ value
   pub few : z.passes ≤ 32
   pub waited : List Place
   pub stock : Stock
@@ -163,7 +162,7 @@ StaysApart c = stays_apart c.call
 -- from the view v to the view w a check of its write, if it is one, succeeded, by whose notes its key begins that of a row, or that of a
 -- row begins it
 abbrev pub finds_overlap : Sizes → Caller → Call → View → View → Type 0
-finds_overlap z c (call.Write m) v w = writes.FindsOverlap z (key_of m.job c.room).items v w
+finds_overlap z c (call.Write m) v w = writes.FindsOverlap z c.room.row.key.items v w
 finds_overlap z c (call.Seek m) v w = ⊥
 
 abbrev pub FindsOverlap : Sizes → Caller → View → View → Type 0

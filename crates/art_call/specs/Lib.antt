@@ -2,7 +2,6 @@
 pub use Rattle.art_change.specs.ArtAttempt
 pub use Rattle.art_change.specs as ArtChange
 pub use Rattle.art_change.specs.ArtPlan
-pub use Rattle.art_change.specs.ArtErase
 pub use Rattle.art_change.specs.ArtFind
 pub use Rattle.art_frame.specs as ArtFrame
 pub use Rattle.art_change.specs.ArtGather

@@ -61,7 +61,8 @@ impl Caller {
 
     /// An insert of the key with the value is begun, in so many turns.
     pub fn begin_insert(&mut self, key: &Key, value: u64, turns: u32)
-        ensures calling { (z : SizesOf) (u : View) → IsCaller z u self.old → IsCalling z (insert_wish key.now value) turns turns u self.new u }
+        ensures calling { (z : SizesOf) (u : View) → IsCaller z u self.old →
+            IsCalling z (insert_wish key.now value) turns turns u self.new u }
         ensures apart { StaysApart self.new }
     {
         self.room.set(key, value);
@@ -75,7 +76,7 @@ impl Caller {
         ensures calling { (z : SizesOf) (u : View) → IsCaller z u self.old → IsCalling z (remove_wish key.now) turns turns u self.new u }
         ensures apart { StaysApart self.new }
     {
-        self.room.set_gone(key);
+        self.room.set(key, 0);
         prove!(self.limbo.room() <= 64);
         let write = Write::new(Job::Remove, self.own, turns, &self.room, &self.limbo);
         self.call = Call::Write(write);
@@ -93,7 +94,8 @@ impl Caller {
     /// A look of the range from the key on, before the bound, is begun, in so many turns.
     pub fn begin_look(&mut self, lo: &Key, hi: &Bound, turns: u32)
         requires { is_before (bound_at (to_text lo.now.items)) hi.now ≡ true }
-        ensures calling { (z : SizesOf) (u : View) → IsCaller z u self.old → IsCalling z (look_wish lo.now hi.now) turns turns u self.new u }
+        ensures calling { (z : SizesOf) (u : View) → IsCaller z u self.old →
+            IsCalling z (look_wish lo.now hi.now) turns turns u self.new u }
         ensures apart { StaysApart self.new }
     {
         self.key = copied(lo);

@@ -2,7 +2,8 @@
 ghost use Rattle.std.specs.Prelude.{◌≡◌, ◌≢◌, ℕ, None, true};
 ghost use Rattle.art_call.specs.Calls.{Get as get_wish, HasCalled, Insert as insert_wish, IsCaller, Look as look_wish, Remove as remove_wish, write_wish};
 ghost use Rattle.art_call.specs.Outcomes.{of_look, of_seek, of_write};
-ghost use Rattle.art_change.specs.Tries.{IsRoom, key_of, value_of};
+ghost use Rattle.art_change.specs.ArtAttempt.Attempts.{IsRoom};
+ghost use Rattle.art_change.specs.ArtAttempt.declared.attempts.Job.TheVariants.{Remove as removal};
 ghost use Rattle.art_change.specs.declared.writes.Outcome.TheVariants.{Overlaps as overlaps};
 ghost use Rattle.art_key.specs.Bounds.{is_before};
 ghost use Rattle.art_seek.specs.ArtLook.Seen.{bound_at};
@@ -47,17 +48,18 @@ impl Caller {
             self.new (of_write result) (S.view steps.new) }
         ensures apart { AreApart (S.admits steps.old) → result ≢ overlaps }
     {
-        self.room.set_gone(key);
+        self.room.set(key, 0);
         self.make_write(steps, Job::Remove, turns)
     }
 
     /// Makes a write of what the room has, in so many turns.
     fn make_write<S: EpochSteps>(&mut self, steps: &mut S, job: Job, turns: u32) -> WriteOutcome
-        requires admitted { S.admits steps.old (key_of job self.old.room).items }
+        requires admitted { S.admits steps.old self.old.room.row.key.items }
         requires caller { IsCaller (S.sizes steps.old) (S.view steps.old) self.old }
-        requires room { IsRoom (S.sizes steps.old) job self.old.room }
+        requires room { IsRoom (S.sizes steps.old) self.old.room }
+        requires value { job ≡ removal → self.old.room.row.value ≡ 0 }
         ensures only { S.only steps.old steps.new }
-        ensures called { (restarts : ℕ) × HasCalled (S.sizes steps.old) (write_wish job (key_of job self.old.room) (value_of job self.old.room))
+        ensures called { (restarts : ℕ) × HasCalled (S.sizes steps.old) (write_wish job self.old.room.row.key self.old.room.row.value)
             turns turns restarts (S.view steps.old) self.new (of_write result) (S.view steps.new) }
         ensures apart { AreApart (S.admits steps.old) → result ≢ overlaps }
     {

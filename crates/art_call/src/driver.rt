@@ -6,9 +6,8 @@ ghost use Rattle.art_call.specs.Made.{MakesStep, is_told, tells};
 ghost use Rattle.art_call.specs.declared.outcomes.Outcome.{Outcome as OutcomeOf};
 ghost use Rattle.art_call.specs.declared.outcomes.Outcome.TheVariants.{Overlaps as overlaps};
 ghost use Rattle.art_change.specs.ArtAttempt.Asking.{Answers as WriteAnswers, IsAllowed};
-ghost use Rattle.art_change.specs.Tries.{SameKey, key_of};
 ghost use Rattle.art_change.specs.Writes as writes;
-ghost use Rattle.art_change.specs.Writes.{IsApart};
+ghost use Rattle.art_change.specs.Writes.{IsApart, SameRow};
 ghost use Rattle.art_change.specs.declared.writes.Outcome.{Outcome as WriteOutcome};
 ghost use Rattle.art_epoch.specs.Limbo.{places_of};
 ghost use Rattle.art_epoch.specs.declared.limbo.Place.{Place};
@@ -92,7 +91,7 @@ fn step_of_write<S: EpochSteps>(
     room: &mut Room,
     limbo: &mut Limbo,
 ) -> Option<Made>
-    requires admitted { S.admits steps.old (key_of write.old.job room.old).items }
+    requires admitted { S.admits steps.old room.old.row.key.items }
     requires fits { (u : View) × (ps : List Place) ×
         writes.Fits (S.sizes steps.old) u ps write.old room.old (places_of limbo.old) (S.view steps.old) }
     ensures only { S.only steps.old steps.new }
@@ -102,9 +101,9 @@ fn step_of_write<S: EpochSteps>(
     ensures none { IfNone result ((S.view steps.new ≡ S.view steps.old) × ((o : WriteOutcome) × (writes.ended_at write.new ≡ Some o))) }
     ensures job { write.new.job ≡ write.old.job }
     ensures turns { write.new.turns ≡ write.old.turns }
-    ensures key { SameKey write.old.job room.old room.new }
+    ensures key { SameRow room.old room.new }
     ensures refuses { writes.WillRefuse write.old → writes.WillRefuse write.new }
-    ensures apart { writes.NoneOverlaps (S.admits steps.old) (S.sizes steps.old) (key_of write.old.job room.old).items
+    ensures apart { writes.NoneOverlaps (S.admits steps.old) (S.sizes steps.old) room.old.row.key.items
         (S.view steps.old) (S.view steps.new) → IsApart write.old → IsApart write.new }
     ensures left { (S.view steps.new).steps + writes.steps_left write.new room.new (places_of limbo.new) ≤
         (S.view steps.old).steps + writes.steps_left write.old room.old (places_of limbo.old) }

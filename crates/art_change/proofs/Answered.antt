@@ -1,16 +1,15 @@
 -- What a client sees of a write that has ended.
 use Rattle.std.proofs.Common.{◌≡◌, ℕ, ◌++◌, true, List, [], ◌∷◌, length, Option, Some, None, sym, ap, ap₂, ◌∙◌, subst}
-use Rattle.art_change.proofs.EitherKind.{IsLeft, left_by, left_since}
-use Rattle.art_change.specs.Tries.{key_of, value_of}
-use Rattle.art_erase.specs.ArtAttempt.declared.rooms.Room.{Room}
+use Rattle.art_change.proofs.Endings.{IsLeft, left_by, left_since}
+use Rattle.art_attempt.specs.declared.rooms.Room.{Room}
 use Rattle.art_change.specs.Writes.{HasAnswered, IsClosing, IsDone, gone_by, told_by}
 use Rattle.art_change.specs.declared.writes.Write.{Write}
 use Rattle.art_change.specs.declared.writes.Outcome.{Outcome}
 use Rattle.art_change.specs.declared.writes.Outcome.TheVariants.{New, Present, Gone, Absent, Full, Exhausted, Overlaps, Busy, Crowded}
 use Rattle.art_epoch.specs.declared.limbo.Place.{Place}
-use Rattle.art_erase.specs.ArtFrame.Closings.{ClosingFits, IsClosed, is_ended}
-use Rattle.art_erase.specs.ArtFrame.declared.closings.Closing.{Closing}
-use Rattle.art_erase.specs.ArtFrame.declared.closings.Closing.TheVariants as closing
+use Rattle.art_frame.specs.Closings.{ClosingFits, IsClosed, is_ended}
+use Rattle.art_frame.specs.declared.closings.Closing.{Closing}
+use Rattle.art_frame.specs.declared.closings.Closing.TheVariants as closing
 use Rattle.art_step.specs.Events.{MakesEvent, SeesEvent}
 use Rattle.art_step.specs.Histories.{IsLegal, event, places}
 use Rattle.art_step.specs.Tokens.{links_of}
@@ -49,32 +48,32 @@ module _ (z : Sizes) (u : View) (ps : List Place) (m : Write) (r : Room) (qs : L
   pub left_opened : (k : IsClosing z u ps m r qs v) → IsLeft z k.opened m.job (record r { stock = k.stock }) m.outcome k.ended
   left_opened k =
       left_since z k.opened k.began k.begun.base m.job (record r { stock = k.stock }) m.outcome k.ended
-      (left_by z k.began (record r { stock = k.stock }) k.ended m.job m.trying m.outcome m.left k.outcome)
+      (left_by z k.began (record r { stock = k.stock }) k.ended m.job m.attempt m.outcome m.left k.outcome)
 
-  closing_answers : IsClosing z u ps m r qs v → is_ended m.closing ≡ true → HasAnswered z u m.job m.outcome (key_of m.job r) (value_of m.job r) qs v
+  closing_answers : IsClosing z u ps m r qs v → is_ended m.closing ≡ true → HasAnswered z u m.job m.outcome r.row.key r.row.value qs v
   closing_answers k is =
-      let closed = closed_at z (key_of m.job r).items (value_of m.job r) k.ended v k.waiting qs m r m.closing is k.fits in
+      let closed = closed_at z r.row.key.items r.row.value k.ended v k.waiting qs m r m.closing is k.fits in
       record {
         idle = ap (λ (t : View). t.pin) closed.is;
         free = closed.free;
         limbo = closed.limbo;
         tells = sees_all u k.opened k.ended v (ap (λ (t : View). t.seen) k.frame.frame.is) (ap (λ (t : View). t.own) k.frame.frame.is) (ap (λ (t : View). t.pass) k.frame.frame.is)
-            (ap (λ (t : View). t.seen) closed.is) (ap (λ (t : View). t.own) closed.is) (told_by m.outcome m.job (key_of m.job r) (value_of m.job r))
+            (ap (λ (t : View). t.seen) closed.is) (ap (λ (t : View). t.own) closed.is) (told_by m.outcome m.job r.row.key r.row.value)
             (left_opened k).tells;
       }
 
-  pub answered : (o : Outcome) → m.outcome ≡ o → IsDone z u ps o m r qs v → HasAnswered z u m.job o (key_of m.job r) (value_of m.job r) qs v
+  pub answered : (o : Outcome) → m.outcome ≡ o → IsDone z u ps o m r qs v → HasAnswered z u m.job o r.row.key r.row.value qs v
   answered (Crowded b) is done = record {
     idle = done.0.idle;
     free = ap (λ (t : View). t.held) done.0.only ∙ done.1;
     limbo = done.0.limbo;
     tells = (ap (λ (t : View). t.seen) done.0.only, ap (λ (t : View). t.own) done.0.only);
   }
-  answered New is done = subst (λ (o : Outcome). HasAnswered z u m.job o (key_of m.job r) (value_of m.job r) qs v) is (closing_answers done.0 done.1)
-  answered (Present stands) is done = subst (λ (o : Outcome). HasAnswered z u m.job o (key_of m.job r) (value_of m.job r) qs v) is (closing_answers done.0 done.1)
-  answered (Gone value) is done = subst (λ (o : Outcome). HasAnswered z u m.job o (key_of m.job r) (value_of m.job r) qs v) is (closing_answers done.0 done.1)
-  answered Absent is done = subst (λ (o : Outcome). HasAnswered z u m.job o (key_of m.job r) (value_of m.job r) qs v) is (closing_answers done.0 done.1)
-  answered (Full pool) is done = subst (λ (o : Outcome). HasAnswered z u m.job o (key_of m.job r) (value_of m.job r) qs v) is (closing_answers done.0 done.1)
-  answered (Exhausted c) is done = subst (λ (o : Outcome). HasAnswered z u m.job o (key_of m.job r) (value_of m.job r) qs v) is (closing_answers done.0 done.1)
-  answered Overlaps is done = subst (λ (o : Outcome). HasAnswered z u m.job o (key_of m.job r) (value_of m.job r) qs v) is (closing_answers done.0 done.1)
-  answered Busy is done = subst (λ (o : Outcome). HasAnswered z u m.job o (key_of m.job r) (value_of m.job r) qs v) is (closing_answers done.0 done.1)
+  answered New is done = subst (λ (o : Outcome). HasAnswered z u m.job o r.row.key r.row.value qs v) is (closing_answers done.0 done.1)
+  answered (Present stands) is done = subst (λ (o : Outcome). HasAnswered z u m.job o r.row.key r.row.value qs v) is (closing_answers done.0 done.1)
+  answered (Gone value) is done = subst (λ (o : Outcome). HasAnswered z u m.job o r.row.key r.row.value qs v) is (closing_answers done.0 done.1)
+  answered Absent is done = subst (λ (o : Outcome). HasAnswered z u m.job o r.row.key r.row.value qs v) is (closing_answers done.0 done.1)
+  answered (Full pool) is done = subst (λ (o : Outcome). HasAnswered z u m.job o r.row.key r.row.value qs v) is (closing_answers done.0 done.1)
+  answered (Exhausted c) is done = subst (λ (o : Outcome). HasAnswered z u m.job o r.row.key r.row.value qs v) is (closing_answers done.0 done.1)
+  answered Overlaps is done = subst (λ (o : Outcome). HasAnswered z u m.job o r.row.key r.row.value qs v) is (closing_answers done.0 done.1)
+  answered Busy is done = subst (λ (o : Outcome). HasAnswered z u m.job o r.row.key r.row.value qs v) is (closing_answers done.0 done.1)

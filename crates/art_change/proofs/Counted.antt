@@ -1,15 +1,16 @@
 -- How many steps a write that has ended made, and how many failures it met.
 use Rattle.std.proofs.Common.{◌≡◌, true, List, ap, subst, arith}
-use Rattle.art_erase.specs.ArtAttempt.declared.rooms.Room.{Room}
+use Rattle.art_attempt.specs.declared.rooms.Room.{Room}
 use Rattle.art_change.proofs.Answered.{closed_at}
-use Rattle.art_change.proofs.EitherKind.{left_by}
-use Rattle.art_change.specs.Tries.{EndsSo, key_of, value_of}
-use Rattle.art_change.specs.Writes.{HasCounted, HasOutcome, IsClosing, IsDone, UsedTurns}
+use Rattle.art_change.proofs.Endings.{left_by}
+use Rattle.art_attempt.specs.Attempts.{EndsSo}
+use Rattle.art_attempt.specs.declared.attempts.Attempt.{Attempt}
+use Rattle.art_change.specs.Writes.{HasCounted, OutcomeBy, IsClosing, IsDone, UsedTurns}
 use Rattle.art_change.specs.declared.writes.Outcome.{Outcome}
 use Rattle.art_change.specs.declared.writes.Outcome.TheVariants.{New, Present, Gone, Absent, Full, Exhausted, Overlaps, Busy, Crowded}
 use Rattle.art_change.specs.declared.writes.Write.{Write}
 use Rattle.art_epoch.specs.declared.limbo.Place.{Place}
-use Rattle.art_erase.specs.ArtFrame.Closings.{is_ended}
+use Rattle.art_frame.specs.Closings.{is_ended}
 use Rattle.art_step.specs.declared.views.Sizes.{Sizes}
 use Rattle.art_step.specs.declared.views.View.{View}
 
@@ -19,9 +20,9 @@ module _ (z : Sizes) (u : View) (ps : List Place) (m : Write) (r : Room) (qs : L
     opened_failures = ap (λ (t : View). t.failures) k.frame.frame.is
 
     closed_failures : v.failures ≡ k.ended.failures
-    closed_failures = ap (λ (t : View). t.failures) (closed_at z (key_of m.job r).items (value_of m.job r) k.ended v k.waiting qs m r m.closing is k.fits).is
+    closed_failures = ap (λ (t : View). t.failures) (closed_at z r.row.key.items r.row.value k.ended v k.waiting qs m r m.closing is k.fits).is
 
-    used_turns : EndsSo z k.began m.job (record r { stock = k.stock }) k.ended → m.left ≡ 0 → UsedTurns z u m.turns v
+    used_turns : EndsSo z k.began (record r { stock = k.stock }) k.ended → m.left ≡ 0 → UsedTurns z u m.turns v
     used_turns so none =
         let counted = k.counted in
         let early = k.frame.later in
@@ -37,26 +38,26 @@ module _ (z : Sizes) (u : View) (ps : List Place) (m : Write) (r : Room) (qs : L
         }
 
     -- an outcome that says so came at the last turn
-    at_last : (o : Outcome) → HasOutcome z k.began m.job m.trying (record r { stock = k.stock }) o m.left k.ended → o ≡ Busy → UsedTurns z u m.turns v
-    at_last Busy h busy = used_turns h.0 h.1
-    at_last New h busy = cc
-    at_last (Present stands) h busy = cc
-    at_last (Gone value) h busy = cc
-    at_last Absent h busy = cc
-    at_last (Full pool) h busy = cc
-    at_last (Exhausted c) h busy = cc
-    at_last Overlaps h busy = cc
-    at_last (Crowded b) h busy = cc
+    at_last : (t : Attempt) (o : Outcome) → OutcomeBy z k.began t.job t.position t.case t.lowering (record r { stock = k.stock }) o m.left k.ended → o ≡ Busy → UsedTurns z u m.turns v
+    at_last t Busy h busy = used_turns h.0 h.1
+    at_last t New h busy = cc
+    at_last t (Present stands) h busy = cc
+    at_last t (Gone value) h busy = cc
+    at_last t Absent h busy = cc
+    at_last t (Full pool) h busy = cc
+    at_last t (Exhausted c) h busy = cc
+    at_last t Overlaps h busy = cc
+    at_last t (Crowded b) h busy = cc
 
     closing_counted : HasCounted z u m.turns m.restarts m.outcome v
     closing_counted = record {
       failed =
           let failed = k.begun.failed in
-          let more = (left_by z k.began (record r { stock = k.stock }) k.ended m.job m.trying m.outcome m.left k.outcome).later.failures in
+          let more = (left_by z k.began (record r { stock = k.stock }) k.ended m.job m.attempt m.outcome m.left k.outcome).later.failures in
           let first = opened_failures in
           let last = closed_failures in
           omega (arith, failed, more, first, last);
-      busy = at_last m.outcome k.outcome;
+      busy = at_last m.attempt m.outcome k.outcome.fits;
     }
 
   pub write_counted : (o : Outcome) → m.outcome ≡ o → IsDone z u ps o m r qs v → HasCounted z u m.turns m.restarts o v

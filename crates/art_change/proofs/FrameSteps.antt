@@ -11,14 +11,14 @@ use Rattle.art_epoch.specs.declared.pins.Pinning.{Pinning}
 use Rattle.art_epoch.specs.declared.pins.Pinning.TheVariants as pinning
 use Rattle.art_epoch.specs.declared.reclaiming.ReclaimStage.{ReclaimStage}
 use Rattle.art_epoch.specs.declared.reclaiming.ReclaimStage.TheVariants as reclaiming
-use Rattle.art_erase.specs.ArtFrame.Closings as closings
-use Rattle.art_erase.specs.ArtFrame.Openings as openings
-use Rattle.art_erase.specs.ArtFrame.Stocks.{first_in}
-use Rattle.art_erase.specs.ArtFrame.declared.closings.Closing.{Closing}
-use Rattle.art_erase.specs.ArtFrame.declared.closings.Closing.TheVariants as closing
-use Rattle.art_erase.specs.ArtFrame.declared.openings.Opening.{Opening}
-use Rattle.art_erase.specs.ArtFrame.declared.openings.Opening.TheVariants as opening
-use Rattle.art_erase.specs.ArtFrame.declared.stocks.Stock.{Stock}
+use Rattle.art_frame.specs.Closings as closings
+use Rattle.art_frame.specs.Openings as openings
+use Rattle.art_frame.specs.Stocks.{first_in}
+use Rattle.art_frame.specs.declared.closings.Closing.{Closing}
+use Rattle.art_frame.specs.declared.closings.Closing.TheVariants as closing
+use Rattle.art_frame.specs.declared.openings.Opening.{Opening}
+use Rattle.art_frame.specs.declared.openings.Opening.TheVariants as opening
+use Rattle.art_frame.specs.declared.stocks.Stock.{Stock}
 use Rattle.art_machine.proofs.Counting.{pinning_counts}
 use Rattle.art_machine.specs.Acting.{Answers, IsPlain}
 use Rattle.art_machine.specs.declared.actions.Action.{Action}

@@ -2,18 +2,17 @@
 use Rattle.std.proofs.Common.{◌≡◌, ℕ, ◌+◌, ◌-◌, ◌<◌, ◌≤◌, ◌==◌, true, false, List, [], ◌∷◌, length, Option, Some, None, refl, ap, ◌∙◌, subst, arith, ⊎_elim}
 use Rattle.std.proofs.lemmas.Bool.{cases_Bool, eqb-true}
 use Rattle.std.proofs.lemmas.Option.{same_Some}
-use Rattle.art_erase.proofs.ArtAttempt.Tries.{later_first, still_then}
-use Rattle.art_erase.specs.ArtAttempt.Inserting.{tries_left}
-use Rattle.art_erase.specs.ArtAttempt.Trying.{StillTries}
-use Rattle.art_erase.specs.ArtAttempt.declared.rooms.Room.{Room}
-use Rattle.art_change.proofs.EitherKind.{IsRefusal, anew_failed, left_by, left_since, refused_so}
-use Rattle.art_change.specs.Tries.{EndFits, EndsSo, HasHand, IsRoom, SameKey, key_of, value_of}
-use Rattle.art_change.specs.Writes.{HasBegun, HasOutcome, IsClosing, IsDone, IsOpening, ended_left, given, gone_by, or_busy, outcome_of}
-use Rattle.art_change.specs.declared.tries.Job.{Job}
-use Rattle.art_change.specs.declared.tries.Job.TheVariants.{Insert, Remove}
-use Rattle.art_change.specs.declared.tries.Tried.{Tried}
-use Rattle.art_change.specs.declared.tries.Tried.TheVariants as tried
-use Rattle.art_change.specs.declared.tries.Trying.{Trying}
+use Rattle.art_attempt.proofs.Left.{free_few}
+use Rattle.art_attempt.proofs.Tries.{later_first, still_then}
+use Rattle.art_attempt.specs.Attempts.{EndFits, EndsSo, Fits, HasHand, IsRoom, ended_at, ended_left, is_free, tries_left}
+use Rattle.art_attempt.specs.Trying.{StillTries}
+use Rattle.art_attempt.specs.declared.rooms.Room.{Room}
+use Rattle.art_change.proofs.Endings.{left_by, left_since}
+use Rattle.art_change.specs.Writes.{HasBegun, HasOutcome, IsClosing, IsDone, IsFirst, IsOpening, OutcomeBy, SameRow, given, gone_by, or_busy, outcome_of}
+use Rattle.art_attempt.specs.declared.attempts.Job.{Job}
+use Rattle.art_attempt.specs.declared.attempts.Ending.{Ending}
+use Rattle.art_attempt.specs.declared.attempts.Ending.TheVariants as ending
+use Rattle.art_attempt.specs.declared.attempts.Attempt.{Attempt}
 use Rattle.art_change.specs.declared.writes.Write.{Write}
 use Rattle.art_change.specs.declared.writes.Outcome.{Outcome}
 use Rattle.art_change.specs.declared.writes.Outcome.TheVariants.{New, Present, Gone, Absent, Full, Exhausted, Overlaps, Busy, Crowded}
@@ -21,10 +20,10 @@ use Rattle.std.specs.List.{cons_option}
 use Rattle.art_cell.specs.Children.{link_of}
 use Rattle.art_cell.specs.declared.cells.Link.{Link}
 use Rattle.art_epoch.specs.declared.limbo.Place.{Place}
-use Rattle.art_erase.proofs.ArtFrame.Stocked.{at_most_five, stock_hinted, stock_same}
-use Rattle.art_erase.specs.ArtFrame.Closings.{MayClose, begins, is_ended, steps_left}
-use Rattle.art_erase.specs.ArtFrame.Openings.{IsOpened}
-use Rattle.art_erase.specs.ArtFrame.declared.stocks.Stock.{Stock}
+use Rattle.art_frame.proofs.Stocked.{at_most_five, stock_hinted, stock_same}
+use Rattle.art_frame.specs.Closings.{MayClose, begins, is_ended, steps_left}
+use Rattle.art_frame.specs.Openings.{IsOpened}
+use Rattle.art_frame.specs.declared.stocks.Stock.{Stock}
 use Rattle.art_step.specs.Tokens.{links_of}
 use Rattle.art_step.specs.declared.views.Sizes.{Sizes}
 use Rattle.art_step.specs.declared.views.View.{View}
@@ -32,27 +31,24 @@ use Rattle.art_step.specs.declared.views.View.{View}
 -- ---- a number goes back
 
 -- what is known of the opening and of the room does not hang on where searches begin
-pub given_key : (j : Job) (o : Option Link) (r : Room) → SameKey j r (given o r)
-given_key Insert (Some d) r = record { key = refl; value = refl }
-given_key Remove (Some d) r = record { key = refl; value = refl }
-given_key j None r = record { key = refl; value = refl }
+pub given_key : (o : Option Link) (r : Room) → SameRow r (given o r)
+given_key (Some d) r = record { key = refl; value = refl }
+given_key None r = record { key = refl; value = refl }
 
-pub given_room : (z : Sizes) (j : Job) (o : Option Link) (r : Room) → IsRoom z j r → IsRoom z j (given o r)
-given_room z Insert (Some d) r i = record { sizes = i.sizes; key = i.key }
-given_room z Remove (Some d) r i = record { sizes = i.sizes; key = i.key }
-given_room z j None r i = i
+pub given_room : (z : Sizes) (o : Option Link) (r : Room) → IsRoom z r → IsRoom z (given o r)
+given_room z (Some d) r i = record { sizes = i.sizes; key = i.key }
+given_room z None r i = i
 
-given_has : (z : Sizes) (j : Job) (o : Option Link) (u : View) (r : Room) → HasHand z j u r → HasHand z j u (given o r)
-given_has z Insert (Some d) u r has = stock_hinted z r.row.key.items r.row.value u d r.stock has
-given_has z Remove (Some d) u r has = stock_hinted z r.gone.key.items 0 u d r.stock has
-given_has z j None u r has = has
+given_has : (z : Sizes) (o : Option Link) (u : View) (r : Room) → HasHand z u r → HasHand z u (given o r)
+given_has z (Some d) u r has = stock_hinted z r.row.key.items r.row.value u d r.stock has
+given_has z None u r has = has
 
 pub given_opening : (z : Sizes) (u : View) (ps : List Place) (m : Write) (o : Option Link) (r : Room) (qs : List Place) (v : View) → IsOpening z u ps m r qs v → IsOpening z u ps m (given o r) qs v
 given_opening z u ps m o r qs v i = record {
   opening = i.opening;
   going = i.going;
   free = i.free;
-  has = given_has z m.job o u r i.has;
+  has = given_has z o u r i.has;
   later = i.later;
   full = i.full;
   fresh = i.fresh;
@@ -75,21 +71,21 @@ module _ (z : Sizes) (u opened : View) (ps qs : List Place) (o : IsOpened z u op
     few = λ limited. omega arith;
   }
 
-  pub opened_has : (j : Job) (r : Room) → HasHand z j u r → HasHand z j opened r
-  opened_has j r has = stock_same z (key_of j r).items (value_of j r) u opened r.stock (ap (λ (t : View). t.hand) o.is) has
+  pub opened_has : (r : Room) → HasHand z u r → HasHand z opened r
+  opened_has r has = stock_same z r.row.key.items r.row.value u opened r.stock (ap (λ (t : View). t.hand) o.is) has
 
 -- nothing was done in it yet
 module _ (z : Sizes) (opened : View) (restarts : ℕ) (v : View) (begun : HasBegun z opened restarts v) where
   pub begun_tries : StillTries v v
   begun_tries = record { rest = refl; free = begun.base.free; pinned = begun.base.pinned; later = later_first v }
 
-  pub begun_so : (j : Job) (r : Room) → HasHand z j v r → EndsSo z v j r v
-  begun_so j r has = record { still = begun_tries; spent = λ limited. omega arith; has = has }
+  pub begun_so : (r : Room) → HasHand z v r → EndsSo z v r v
+  begun_so r has = record { still = begun_tries; spent = λ limited. omega arith; has = has }
 
 -- another, after one that failed
-pub begun_again : (z : Sizes) (opened began v : View) (restarts more : ℕ) (j : Job) (r : Room) → HasBegun z opened restarts began → EndsSo z began j r v → began.failures < v.failures → more ≤ restarts + 1
+pub begun_again : (z : Sizes) (opened began v : View) (restarts more : ℕ) (r : Room) → HasBegun z opened restarts began → EndsSo z began r v → began.failures < v.failures → more ≤ restarts + 1
     → HasBegun z opened more v
-begun_again z opened began v restarts more j r begun so failed fewer = record {
+begun_again z opened began v restarts more r begun so failed fewer = record {
   base = still_then opened began v begun.base so.still;
   failed = let before = begun.failed in omega (arith, before, failed, fewer);
   few = λ limited. (let before = begun.few limited in let spent = so.spent limited in omega (arith, before, spent, failed));
@@ -106,8 +102,8 @@ links_fewer : (words : List ℕ) → length (links_of words) ≤ length words
 links_fewer [] = omega arith
 links_fewer (word ∷ words) = let rest = links_fewer words in let one = cons_more (link_of word) (links_of words) in omega (arith, rest, one)
 
-pub may_close : (z : Sizes) (u opened began : View) (ps qs : List Place) → IsOpened z u opened ps qs → StillTries opened began → (j : Job) (t : Trying) (r : Room) (v : View) (o : Outcome) (left : ℕ)
-    → HasOutcome z began j t r o left v → length (gone_by o r.change) ≤ 3 → MayClose z (key_of j r).items (value_of j r) v qs (links_of (gone_by o r.change)) r.stock
+pub may_close : (z : Sizes) (u opened began : View) (ps qs : List Place) → IsOpened z u opened ps qs → StillTries opened began → (j : Job) (t : Attempt) (r : Room) (v : View) (o : Outcome) (left : ℕ)
+    → HasOutcome z began j t r o left v → length (gone_by o r.change) ≤ 3 → MayClose z r.row.key.items r.row.value v qs (links_of (gone_by o r.change)) r.stock
 may_close z u opened began ps qs frame base j t r v o left h few =
     let end = left_since z opened began base j r o v (left_by z began r v j t o left h) in
     record {
@@ -119,49 +115,49 @@ may_close z u opened began ps qs frame base j t r v o left h few =
 
 -- ---- how the write ends by how an attempt did
 
-module _ (z : Sizes) (u : View) (j : Job) (t : Trying) (r : Room) (left : ℕ) (v : View) where
+module _ (z : Sizes) (u : View) (t : Attempt) (r : Room) (left : ℕ) (v : View) where
   abbrev Ends : Outcome → Type 0
-  Ends o = HasOutcome z u j t r o left v
+  Ends o = OutcomeBy z u t.job t.position t.case t.lowering r o left v
 
-  or_busy_ends : (o : Outcome) → EndsSo z u j r v → Ends o → Ends (or_busy left o)
+  or_busy_ends : (o : Outcome) → EndsSo z u r v → Ends o → Ends (or_busy left o)
   or_busy_ends o so ends = ⊎_elim
       (λ (e : (left == 0) ≡ true). rw e (so, eqb-true left 0 e))
       (λ (e : (left == 0) ≡ false). rw e ends)
       (cases_Bool (left == 0))
 
-  so : (e : Tried) → IsRefusal e → EndFits z u j t r e v → EndsSo z u j r v
-  so e none fits = refused_so z u r v j t e none fits
+  ends_by : (e : Ending) (o : Outcome) → EndFits z u t r e v → outcome_of left e ≡ Some o → Ends o
+  ends_by ending.New o fits is = subst Ends (same_Some {A = Outcome} New o is) fits
+  ends_by (ending.Present stands) o fits is = subst Ends (same_Some {A = Outcome} (Present stands) o is) fits
+  ends_by (ending.Gone value) o fits is = subst Ends (same_Some {A = Outcome} (Gone value) o is) fits
+  ends_by ending.Absent o fits is = subst Ends (same_Some {A = Outcome} Absent o is) fits
+  ends_by (ending.Full pool) o fits is = subst Ends (same_Some {A = Outcome} (or_busy left (Full pool)) o is) (or_busy_ends (Full pool) fits.1 fits)
+  ends_by (ending.Exhausted c) o fits is = subst Ends (same_Some {A = Outcome} (Exhausted c) o is) fits
+  ends_by ending.Overlaps o fits is = subst Ends (same_Some {A = Outcome} (or_busy left Overlaps) o is) (or_busy_ends Overlaps fits.1 fits)
+  ends_by ending.Restart o fits is = cc
 
-  pub tried_ends : (e : Tried) (o : Outcome) → EndFits z u j t r e v → outcome_of left e ≡ Some o → Ends o
-  tried_ends tried.New o fits is = subst Ends (same_Some {A = Outcome} New o is) fits
-  tried_ends (tried.Present stands) o fits is = subst Ends (same_Some {A = Outcome} (Present stands) o is) fits
-  tried_ends (tried.Gone value) o fits is = subst Ends (same_Some {A = Outcome} (Gone value) o is) fits
-  tried_ends tried.Absent o fits is = subst Ends (same_Some {A = Outcome} Absent o is) fits
-  tried_ends (tried.Full pool) o fits is = subst Ends (same_Some {A = Outcome} (or_busy left (Full pool)) o is) (or_busy_ends (Full pool) (so (tried.Full pool) tt fits) fits)
-  tried_ends (tried.Exhausted c) o fits is = subst Ends (same_Some {A = Outcome} (Exhausted c) o is) fits
-  tried_ends tried.Overlaps o fits is = subst Ends (same_Some {A = Outcome} (or_busy left Overlaps) o is) (or_busy_ends Overlaps (so tried.Overlaps tt fits) fits)
-  tried_ends tried.Restart o fits is = cc
+  pub outcome_ends : (j : Job) → t.job ≡ j → (e : Ending) (o : Outcome) → EndFits z u t r e v → outcome_of left e ≡ Some o → HasOutcome z u j t r o left v
+  outcome_ends j job e o fits is = record { job = job; fits = ends_by e o fits is }
 
   -- it is tried anew
-  pub anew_ends : (e : Tried) → EndFits z u j t r e v → outcome_of left e ≡ None → EndsSo z u j r v × (u.failures < v.failures)
-  anew_ends tried.New fits is = cc
-  anew_ends (tried.Present stands) fits is = cc
-  anew_ends (tried.Gone value) fits is = cc
-  anew_ends tried.Absent fits is = cc
-  anew_ends (tried.Full pool) fits is = cc
-  anew_ends (tried.Exhausted c) fits is = cc
-  anew_ends tried.Overlaps fits is = cc
-  anew_ends tried.Restart fits is = (so tried.Restart tt fits, anew_failed z u r v j t fits)
+  pub anew_ends : (e : Ending) → EndFits z u t r e v → outcome_of left e ≡ None → EndsSo z u r v × (u.failures < v.failures)
+  anew_ends ending.New fits is = cc
+  anew_ends (ending.Present stands) fits is = cc
+  anew_ends (ending.Gone value) fits is = cc
+  anew_ends ending.Absent fits is = cc
+  anew_ends (ending.Full pool) fits is = cc
+  anew_ends (ending.Exhausted c) fits is = cc
+  anew_ends ending.Overlaps fits is = cc
+  anew_ends ending.Restart fits is = fits
 
-pub none_anew : (left : ℕ) (e : Tried) → outcome_of left e ≡ None → e ≡ tried.Restart
-none_anew left tried.Restart is = refl
-none_anew left tried.New is = cc
-none_anew left (tried.Present stands) is = cc
-none_anew left (tried.Gone value) is = cc
-none_anew left tried.Absent is = cc
-none_anew left (tried.Full pool) is = cc
-none_anew left (tried.Exhausted c) is = cc
-none_anew left tried.Overlaps is = cc
+pub none_anew : (left : ℕ) (e : Ending) → outcome_of left e ≡ None → e ≡ ending.Restart
+none_anew left ending.Restart is = refl
+none_anew left ending.New is = cc
+none_anew left (ending.Present stands) is = cc
+none_anew left (ending.Gone value) is = cc
+none_anew left ending.Absent is = cc
+none_anew left (ending.Full pool) is = cc
+none_anew left (ending.Exhausted c) is = cc
+none_anew left ending.Overlaps is = cc
 
 -- ---- turns
 
@@ -176,7 +172,7 @@ begins_going [] = refl
 begins_going (word ∷ words) = refl
 
 -- an outcome that an attempt had is not that limbo was crowded
-pub done_by : (z : Sizes) (u opened v : View) (ps : List Place) (j : Job) (t : Trying) (r : Room) (o : Outcome) (left : ℕ) (m : Write) (s : Room) (qs : List Place) (w : View) → HasOutcome z opened j t r o left v
+pub done_by : (z : Sizes) (u opened v : View) (ps : List Place) (j : Job) (t : Attempt) (r : Room) (o : Outcome) (left : ℕ) (m : Write) (s : Room) (qs : List Place) (w : View) → HasOutcome z opened j t r o left v
     → IsClosing z u ps m s qs w × (is_ended m.closing ≡ true) → IsDone z u ps o m s qs w
 done_by z u opened v ps j t r New left m s qs w h done = done
 done_by z u opened v ps j t r (Present stands) left m s qs w h done = done
@@ -186,7 +182,7 @@ done_by z u opened v ps j t r (Full pool) left m s qs w h done = done
 done_by z u opened v ps j t r (Exhausted c) left m s qs w h done = done
 done_by z u opened v ps j t r Overlaps left m s qs w h done = done
 done_by z u opened v ps j t r Busy left m s qs w h done = done
-done_by z u opened v ps j t r (Crowded b) left m s qs w h done = absurd h
+done_by z u opened v ps j t r (Crowded b) left m s qs w h done = absurd h.fits
 
 -- ---- steps
 
@@ -195,12 +191,17 @@ begins_few [] s = let few = at_most_five s in omega (arith, few)
 begins_few (word ∷ words) s = let few = at_most_five s in omega (arith, few)
 
 -- it is tried anew
-pub anew_left : (left : ℕ) (e : Tried) → outcome_of left e ≡ None → ended_left left e ≡ tries_left left
-anew_left left tried.New is = cc
-anew_left left (tried.Present stands) is = cc
-anew_left left (tried.Gone value) is = cc
-anew_left left tried.Absent is = cc
-anew_left left (tried.Full pool) is = cc
-anew_left left (tried.Exhausted c) is = cc
-anew_left left tried.Overlaps is = cc
-anew_left left tried.Restart is = refl
+pub anew_left : (left : ℕ) (e : Ending) → outcome_of left e ≡ None → ended_left left e ≡ tries_left left
+anew_left left ending.New is = cc
+anew_left left (ending.Present stands) is = cc
+anew_left left (ending.Gone value) is = cc
+anew_left left ending.Absent is = cc
+anew_left left (ending.Full pool) is = cc
+anew_left left (ending.Exhausted c) is = cc
+anew_left left ending.Overlaps is = cc
+anew_left left ending.Restart is = refl
+
+-- ---- an attempt at its beginning
+
+pub first_of : (j : Job) (t : Attempt) → t.job ≡ j → ended_at t ≡ None → is_free t ≡ true → ((z : Sizes) (u : View) (r : Room) → IsRoom z r → StillTries u u → HasHand z u r → Fits z u t r u) → IsFirst j t
+first_of j t job going free fits = record { job = job; going = going; few = λ left. free_few left t.stage t.apply free; fits = fits }

@@ -3,43 +3,38 @@ use Rattle.std.proofs.Common.{◌≡◌, ◌≢◌, ◌++◌, ℕ, zero, suc, �
 use Rattle.std.proofs.lemmas.List.{length-append}
 use Rattle.std.proofs.lemmas.Option.{slice_get-get_or}
 use Rattle.std.specs.Prelude.{get_or}
-use Rattle.std.specs.Option.{option_map}
 use Rattle.arrayvec.specs.ArrayVec.{ArrayVec}
-use Rattle.art_erase.specs.ArtAttempt.Inserting as inserts
-use Rattle.art_erase.specs.ArtMake.Apply.{is_begun}
-use Rattle.art_erase.specs.ArtAttempt.declared.inserting.Inserting.{Inserting as Insertion}
-use Rattle.art_erase.specs.ArtAttempt.declared.inserting.Stage.{Stage as InsertStage}
-use Rattle.art_erase.specs.ArtAttempt.declared.inserting.Stage.TheVariants as insert
-use Rattle.art_erase.specs.ArtAttempt.declared.rooms.Room.{Room}
+use Rattle.art_attempt.specs.Attempts.{Fits as TryFits, StageFits as AttemptFits, ended_at as try_ended, ending_at, free_at, is_free}
+use Rattle.art_make.specs.Apply.{is_begun}
+use Rattle.art_attempt.specs.declared.rooms.Room.{Room}
 use Rattle.art_cell.specs.declared.cells.Cell.TheVariants as cell
 use Rattle.art_cell.specs.declared.cells.Link.{Link}
 use Rattle.art_cell.specs.declared.cells.Node.{Node}
 use Rattle.art_change.proofs.Answered.{left_opened, sees_all}
-use Rattle.art_change.specs.Tries.{Fits as TryFits, ended_at as try_ended, is_free, key_of, of_entered, of_erased, value_of}
-use Rattle.art_change.specs.Writes.{Fits, HasOutcome, HoldsOrTold, IsClosing, IsDone, StageFits, WillRefuse, gone_by, is_refusal, refuses_at, told_by}
-use Rattle.art_change.specs.declared.tries.Job.{Job}
-use Rattle.art_change.specs.declared.tries.Job.TheVariants.{Insert, Remove}
-use Rattle.art_change.specs.declared.tries.Trying.{Trying}
-use Rattle.art_change.specs.declared.tries.Trying.TheVariants.{Inserting, Erasing}
+use Rattle.art_change.specs.Writes.{Fits, HasOutcome, HoldsOrTold, OutcomeBy, IsClosing, IsDone, StageFits, WillRefuse, gone_by, is_refusal, refuses_at, told_by}
+use Rattle.art_attempt.specs.declared.attempts.Job.{Job}
+use Rattle.art_attempt.specs.declared.attempts.Stage.{Stage as AttemptStage}
+use Rattle.art_attempt.specs.declared.attempts.Stage.TheVariants as attempt
+use Rattle.art_attempt.specs.declared.cases.Case.{Case}
+use Rattle.art_find.specs.declared.findings.Position.{Position}
+use Rattle.art_gather.specs.declared.lowering.Lowering.{Lowering}
+use Rattle.art_attempt.specs.declared.attempts.Job.TheVariants.{Insert, Remove}
+use Rattle.art_attempt.specs.declared.attempts.Attempt.{Attempt}
 use Rattle.art_change.specs.declared.writes.Outcome.{Outcome}
 use Rattle.art_change.specs.declared.writes.Outcome.TheVariants.{New, Present, Gone, Absent, Full, Exhausted, Overlaps, Busy, Crowded}
 use Rattle.art_change.specs.declared.writes.Stage.{Stage}
 use Rattle.art_change.specs.declared.writes.Stage.TheVariants as stages
 use Rattle.art_change.specs.declared.writes.Write.{Write}
 use Rattle.art_epoch.specs.declared.limbo.Place.{Place}
-use Rattle.art_erase.specs.Erasing as erases
-use Rattle.art_erase.specs.declared.erasing.Erasing.{Erasing as Erasure}
-use Rattle.art_erase.specs.declared.erasing.Stage.{Stage as EraseStage}
-use Rattle.art_erase.specs.declared.erasing.Stage.TheVariants as erase
-use Rattle.art_erase.proofs.ArtFrame.Opens.{opening_same}
-use Rattle.art_erase.specs.ArtFrame.Closings.{ClosingFits}
-use Rattle.art_erase.specs.ArtFrame.declared.closings.Closing.{Closing}
-use Rattle.art_erase.specs.ArtFrame.declared.closings.Closing.TheVariants as closing
-use Rattle.art_erase.specs.ArtFrame.declared.stocks.Stock.{Stock}
-use Rattle.art_erase.proofs.ArtMake.Committing.{some_words}
-use Rattle.art_erase.specs.ArtMake.Apply.{Fits as MakeFits, at_claim, at_fill, at_release, ended_at as make_ended, so_many}
-use Rattle.art_erase.specs.ArtMake.declared.apply.Apply.{Apply}
-use Rattle.art_erase.specs.ArtMake.declared.apply.Apply.TheVariants.{Upgrading, Claiming, Filling, Writing, Committing, Releasing, ReleasingNode, GivingUp, Ended}
+use Rattle.art_frame.proofs.Opens.{opening_same}
+use Rattle.art_frame.specs.Closings.{ClosingFits}
+use Rattle.art_frame.specs.declared.closings.Closing.{Closing}
+use Rattle.art_frame.specs.declared.closings.Closing.TheVariants as closing
+use Rattle.art_frame.specs.declared.stocks.Stock.{Stock}
+use Rattle.art_make.proofs.Committing.{some_words}
+use Rattle.art_make.specs.Apply.{Fits as MakeFits, at_claim, at_fill, at_release, ended_at as make_ended, so_many}
+use Rattle.art_make.specs.declared.apply.Apply.{Apply}
+use Rattle.art_make.specs.declared.apply.Apply.TheVariants.{Upgrading, Claiming, Filling, Writing, Committing, Releasing, ReleasingNode, GivingUp, Ended}
 use Rattle.art_plan.specs.Changes.{filled_at, target_at, targets}
 use Rattle.art_plan.specs.Whole.{HoldsWhole, filled_ends, made_at}
 use Rattle.art_plan.specs.declared.changes.Change.{Change}
@@ -102,33 +97,19 @@ module _ (z : Sizes) (c : Change) (u v : View) where
       holds_target u c locked [] (so_many 0 0) v.held released fits.stage.2.holds low (omega (arith, low, few))
   apply_holds (Ended r) fits on some = cc
 
-no_end : {A B : Type 0} (f : A → B) (o : Option A) → option_map f o ≡ None → o ≡ None
-no_end f None is = refl
-no_end f (Some x) is = cc
-
 -- an attempt that is not free holds one
-module _ (z : Sizes) (u : View) (r : Room) (v : View) where
-  insert_holds : (m : Insertion) (s : InsertStage) → inserts.StageFits z u s m r v → inserts.entered_at s ≡ None → inserts.free_at s m.apply ≡ false → v.held ≢ []
-  insert_holds m insert.Apply fits on free = apply_holds z r.change fits.0.early v m.apply fits.0.fits fits.1 free
-  insert_holds m insert.Finding fits on free = cc
-  insert_holds m insert.Reserve fits on free = cc
-  insert_holds m insert.Vouching fits on free = cc
-  insert_holds m (insert.Ended e) fits on free = cc
+module _ (z : Sizes) (u : View) (m : Attempt) (r : Room) (v : View) where
+  holds_at : (s : AttemptStage) → AttemptFits z u s m r v → ending_at s ≡ None → free_at s m.apply ≡ false → v.held ≢ []
+  holds_at attempt.Apply fits on free = apply_holds z r.change fits.0.early v m.apply fits.0.fits fits.1 free
+  holds_at attempt.Finding fits on free = cc
+  holds_at attempt.Reserve fits on free = cc
+  holds_at (attempt.Reading q) fits on free = cc
+  holds_at attempt.Vouching fits on free = cc
+  holds_at attempt.Lowering fits on free = cc
+  holds_at (attempt.Ended e) fits on free = cc
 
-  erase_holds : (m : Erasure) (s : EraseStage) → erases.StageFits z u s m r v → erases.erased_at s ≡ None → erases.free_at s m.apply ≡ false → v.held ≢ []
-  erase_holds m erase.Apply fits on free = apply_holds z r.change fits.0.early v m.apply fits.0.fits fits.1 free
-  erase_holds m erase.Finding fits on free = cc
-  erase_holds m (erase.Reserve layout) fits on free = cc
-  erase_holds m (erase.Reading q) fits on free = cc
-  erase_holds m erase.Vouching fits on free = cc
-  erase_holds m erase.Lowering fits on free = cc
-  erase_holds m (erase.Ended e) fits on free = cc
-
-  pub held_in : (j : Job) (t : Trying) → TryFits z u j t r v → try_ended t ≡ None → is_free t ≡ false → v.held ≢ []
-  held_in Insert (Inserting m) fits on free = insert_holds m m.stage fits.stage (no_end of_entered (inserts.ended_at m) on) free
-  held_in Remove (Erasing m) fits on free = erase_holds m m.stage fits.stage (no_end of_erased (erases.ended_at m) on) free
-  held_in Insert (Erasing m) fits on free = absurd fits
-  held_in Remove (Inserting m) fits on free = absurd fits
+  pub held_in : TryFits z u m r v → try_ended m ≡ None → is_free m ≡ false → v.held ≢ []
+  held_in fits on free = holds_at m.stage fits.stage on free
 
 -- ---- the event was made
 
@@ -140,37 +121,34 @@ module _ (z : Sizes) (k : List ℕ) (value : ℕ) (u v : View) (ps qs : List Pla
   close_tells closing.Ended fits = (ap (λ (t : View). t.seen) fits.0.is, ap (λ (t : View). t.own) fits.0.is)
 
 -- what is no refusal was told
-is_told : (z : Sizes) (u : View) (j : Job) (t : Trying) (r : Room) (o : Outcome) (left : ℕ) (v : View) (k : ArrayVec ℕ) (value : ℕ) → HasOutcome z u j t r o left v
+told_of : (z : Sizes) (u : View) (j : Job) (t : Position) (c : Case) (l : Lowering) (r : Room) (o : Outcome) (left : ℕ) (v : View) (k : ArrayVec ℕ) (value : ℕ) → OutcomeBy z u j t c l r o left v
     → is_refusal o ≡ false → (what : Deed) × (told_by o j k value ≡ Some what)
-is_told z u Insert (Inserting m) r New left v k value fits untold = (_, refl)
-is_told z u Insert (Inserting m) r (Present stands) left v k value fits untold = (_, refl)
-is_told z u Remove (Erasing m) r (Gone had) left v k value fits untold = (_, refl)
-is_told z u Remove (Erasing m) r Absent left v k value fits untold = (_, refl)
-is_told z u Insert (Inserting m) r (Gone had) left v k value fits untold = absurd fits
-is_told z u Insert (Inserting m) r Absent left v k value fits untold = absurd fits
-is_told z u Remove (Erasing m) r New left v k value fits untold = absurd fits
-is_told z u Remove (Erasing m) r (Present stands) left v k value fits untold = absurd fits
-is_told z u j t r (Full pool) left v k value fits untold = cc
-is_told z u j t r (Exhausted c) left v k value fits untold = cc
-is_told z u j t r Overlaps left v k value fits untold = cc
-is_told z u j t r Busy left v k value fits untold = cc
-is_told z u j t r (Crowded b) left v k value fits untold = cc
-is_told z u Insert (Erasing m) r New left v k value fits untold = absurd fits
-is_told z u Insert (Erasing m) r (Present stands) left v k value fits untold = absurd fits
-is_told z u Insert (Erasing m) r (Gone had) left v k value fits untold = absurd fits
-is_told z u Insert (Erasing m) r Absent left v k value fits untold = absurd fits
-is_told z u Remove (Inserting m) r New left v k value fits untold = absurd fits
-is_told z u Remove (Inserting m) r (Present stands) left v k value fits untold = absurd fits
-is_told z u Remove (Inserting m) r (Gone had) left v k value fits untold = absurd fits
-is_told z u Remove (Inserting m) r Absent left v k value fits untold = absurd fits
+told_of z u Insert t c l r New left v k value fits untold = (_, refl)
+told_of z u Insert t c l r (Present stands) left v k value fits untold = (_, refl)
+told_of z u Remove t c l r (Gone had) left v k value fits untold = (_, refl)
+told_of z u Remove t c l r Absent left v k value fits untold = (_, refl)
+told_of z u Insert t c l r (Gone had) left v k value fits untold = let no = fits.0 in cc
+told_of z u Insert t c l r Absent left v k value fits untold = let no = fits.0 in cc
+told_of z u Remove t c l r New left v k value fits untold = let no = fits.0 in cc
+told_of z u Remove t c l r (Present stands) left v k value fits untold = let no = fits.0 in cc
+told_of z u j t c l r (Full pool) left v k value fits untold = cc
+told_of z u j t c l r (Exhausted x) left v k value fits untold = cc
+told_of z u j t c l r Overlaps left v k value fits untold = cc
+told_of z u j t c l r Busy left v k value fits untold = cc
+told_of z u j t c l r (Crowded b) left v k value fits untold = cc
+
+is_told : (z : Sizes) (u : View) (j : Job) (t : Attempt) (r : Room) (o : Outcome) (left : ℕ) (v : View) (k : ArrayVec ℕ) (value : ℕ) → HasOutcome z u j t r o left v
+    → is_refusal o ≡ false → (what : Deed) × (told_by o j k value ≡ Some what)
+is_told z u j t r o left v k value h untold =
+    told_of z u j t.position t.case t.lowering r o left v k value (subst (λ (i : Job). OutcomeBy z u i t.position t.case t.lowering r o left v) h.job h.fits) untold
 
 module _ (z : Sizes) (u : View) (ps : List Place) (m : Write) (r : Room) (qs : List Place) (v : View) where
   closing_told : IsClosing z u ps m r qs v → is_refusal m.outcome ≡ false → HoldsOrTold u v
   closing_told k untold =
-      let same = close_tells z (key_of m.job r).items (value_of m.job r) k.ended v k.waiting qs (links_of (gone_by m.outcome r.change)) r.stock m.closing k.fits in
-      let told = is_told z k.began m.job m.trying (record r { stock = k.stock }) m.outcome m.left k.ended (key_of m.job r) (value_of m.job r) k.outcome untold in
+      let same = close_tells z r.row.key.items r.row.value k.ended v k.waiting qs (links_of (gone_by m.outcome r.change)) r.stock m.closing k.fits in
+      let told = is_told z k.began m.job m.attempt (record r { stock = k.stock }) m.outcome m.left k.ended r.row.key r.row.value k.outcome untold in
       let sees = sees_all u k.opened k.ended v (ap (λ (t : View). t.seen) k.frame.frame.is) (ap (λ (t : View). t.own) k.frame.frame.is) (ap (λ (t : View). t.pass) k.frame.frame.is)
-      same.0 same.1 (told_by m.outcome m.job (key_of m.job r) (value_of m.job r)) (left_opened z u ps m r qs v k).tells in
+      same.0 same.1 (told_by m.outcome m.job r.row.key r.row.value) (left_opened z u ps m r qs v k).tells in
       inr (told.0, subst (SeesEvent u v) told.1 sees)
 
   done_told : (o : Outcome) → m.outcome ≡ o → IsDone z u ps o m r qs v → is_refusal o ≡ false → HoldsOrTold u v
@@ -190,8 +168,8 @@ module _ (z : Sizes) (u : View) (ps : List Place) (m : Write) (r : Room) (qs : L
   pub told_at_end : StageFits z u ps stages.Ended m r qs v → is_refusal m.outcome ≡ false → HoldsOrTold u v
   told_at_end fits untold = done_told m.outcome refl fits untold
 
-  pub held_in_try : StageFits z u ps stages.Trying m r qs v → is_free m.trying ≡ false → HoldsOrTold u v
-  held_in_try fits untold = inl (held_in z fits.0.began r v m.job m.trying fits.0.fits fits.0.going untold)
+  pub held_in_try : StageFits z u ps stages.Trying m r qs v → is_free m.attempt ≡ false → HoldsOrTold u v
+  held_in_try fits untold = inl (held_in z fits.0.began m.attempt r v fits.0.fits fits.0.going untold)
 
 -- ---- what will refuse is free, and has told nothing
 
@@ -222,12 +200,12 @@ module _ (z : Sizes) (k : List ℕ) (value : ℕ) (u v : View) (ps qs : List Pla
 module _ (z : Sizes) (u : View) (ps : List Place) (m : Write) (r : Room) (qs : List Place) (v : View) where
   closing_free : IsClosing z u ps m r qs v → is_refusal m.outcome ≡ true → HoldsOrTold u v → ⊥
   closing_free k refuses =
-      let bytes = (key_of m.job r).items in
-      let same = close_tells z bytes (value_of m.job r) k.ended v k.waiting qs (links_of (gone_by m.outcome r.change)) r.stock m.closing k.fits in
-      let free = close_frees z bytes (value_of m.job r) k.ended v k.waiting qs (links_of (gone_by m.outcome r.change)) r.stock m.closing k.fits in
+      let bytes = r.row.key.items in
+      let same = close_tells z bytes r.row.value k.ended v k.waiting qs (links_of (gone_by m.outcome r.change)) r.stock m.closing k.fits in
+      let free = close_frees z bytes r.row.value k.ended v k.waiting qs (links_of (gone_by m.outcome r.change)) r.stock m.closing k.fits in
       let sees = sees_all u k.opened k.ended v (ap (λ (t : View). t.seen) k.frame.frame.is) (ap (λ (t : View). t.own) k.frame.frame.is) (ap (λ (t : View). t.pass) k.frame.frame.is)
-      same.0 same.1 (told_by m.outcome m.job (key_of m.job r) (value_of m.job r)) (left_opened z u ps m r qs v k).tells in
-      let none = subst (SeesEvent u v) (refusal_tells m.outcome m.job (key_of m.job r) (value_of m.job r) refuses) sees in
+      same.0 same.1 (told_by m.outcome m.job r.row.key r.row.value) (left_opened z u ps m r qs v k).tells in
+      let none = subst (SeesEvent u v) (refusal_tells m.outcome m.job r.row.key r.row.value refuses) sees in
       free_untold u v free none.1
 
   done_free : (o : Outcome) → m.outcome ≡ o → IsDone z u ps o m r qs v → is_refusal o ≡ true → HoldsOrTold u v → ⊥

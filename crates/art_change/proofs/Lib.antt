@@ -1,16 +1,15 @@
 -- the crates below, for those above to name
-pub use Rattle.art_erase.proofs.ArtAttempt
-pub use Rattle.art_erase.proofs.ArtPlan
-pub use Rattle.art_erase.proofs as ArtErase
+pub use Rattle.art_attempt.proofs as ArtAttempt
+pub use Rattle.art_attempt.proofs.ArtPlan
 pub use Rattle.art_find.proofs as ArtFind
-pub use Rattle.art_erase.proofs.ArtGather
+pub use Rattle.art_attempt.proofs.ArtGather
 pub mod Answered
+pub mod Changed
 pub mod Counted
-pub mod EitherKind
+pub mod Endings
 pub mod FrameSteps
 mod Frames
 pub mod GivenUp
-mod Gone
 pub mod Newcomers
 pub mod Overlaps
 pub mod Ready

@@ -1,11 +1,10 @@
 -- A pass that is ready for a write is so again after it.
 use Rattle.std.proofs.Common.{◌≡◌, ℕ, List, [], true, Option, Some, None, refl, sym, ap, ◌∙◌, subst}
-use Rattle.art_erase.specs.ArtAttempt.declared.rooms.Room.{Room}
+use Rattle.art_attempt.specs.declared.rooms.Room.{Room}
 use Rattle.art_cell.specs.declared.cells.Link.{Link}
 use Rattle.art_cell.specs.declared.cells.Link.TheVariants.{Leaf as leaf, Node as node}
 use Rattle.art_change.proofs.Answered.{answered, left_opened}
-use Rattle.art_change.specs.Tries.{IsRoom, key_of, value_of}
-use Rattle.art_change.specs.declared.tries.Job.{Job}
+use Rattle.art_attempt.specs.Attempts.{IsRoom}
 use Rattle.art_change.specs.Writes.{Fits, IsClosing, IsDone, IsReady, MayWrite, StageFits, ended_at, gone_by, outcome_at}
 use Rattle.art_change.specs.declared.writes.Write.{Write}
 use Rattle.art_change.specs.declared.writes.Outcome.{Outcome}
@@ -13,12 +12,12 @@ use Rattle.art_change.specs.declared.writes.Outcome.TheVariants.{New, Present, G
 use Rattle.art_change.specs.declared.writes.Stage.{Stage}
 use Rattle.art_change.specs.declared.writes.Stage.TheVariants as stage
 use Rattle.art_epoch.specs.declared.limbo.Place.{Place}
-use Rattle.art_erase.proofs.ArtFrame.Stocked.{first_is_in, none_is_in}
-use Rattle.art_erase.specs.ArtFrame.Closings.{ClosingFits, IsClosed, is_ended}
-use Rattle.art_erase.specs.ArtFrame.Stocks.{HasStock, first_in}
-use Rattle.art_erase.specs.ArtFrame.declared.closings.Closing.{Closing}
-use Rattle.art_erase.specs.ArtFrame.declared.closings.Closing.TheVariants as closing
-use Rattle.art_erase.specs.ArtFrame.declared.stocks.Stock.{Stock}
+use Rattle.art_frame.proofs.Stocked.{first_is_in, none_is_in}
+use Rattle.art_frame.specs.Closings.{ClosingFits, IsClosed, is_ended}
+use Rattle.art_frame.specs.Stocks.{HasStock, first_in}
+use Rattle.art_frame.specs.declared.closings.Closing.{Closing}
+use Rattle.art_frame.specs.declared.closings.Closing.TheVariants as closing
+use Rattle.art_frame.specs.declared.stocks.Stock.{Stock}
 use Rattle.art_step.specs.Tokens.{links_of}
 use Rattle.art_step.specs.Views.{Member}
 use Rattle.art_step.specs.declared.views.Sizes.{Sizes}
@@ -44,11 +43,11 @@ empty_has z k value v s o hand = by_first (first_in s) refl
     by_first None is = refl
     by_first (Some d) is = absurd (no_link d is)
 
-pub ready_may : (z : Sizes) (u : View) (own : ℕ) (j : Job) (ps : List Place) (r : Room) → IsReady z u own ps r.stock → IsRoom z j r → MayWrite z u own j ps r
-ready_may z u own j ps r ready room = record {
+pub ready_may : (z : Sizes) (u : View) (own : ℕ) (ps : List Place) (r : Room) → IsReady z u own ps r.stock → IsRoom z r → MayWrite z u own ps r
+ready_may z u own ps r ready room = record {
   frame = ready.frame;
   room = room;
-  has = has_empty z (key_of j r).items (value_of j r) u r.stock ready.stock ready.hand;
+  has = has_empty z r.row.key.items r.row.value u r.stock ready.stock ready.hand;
 }
 
 -- ---- after it
@@ -77,14 +76,14 @@ module _ (z : Sizes) (u : View) (own : ℕ) (s : Stock) (ps : List Place) (m : W
 
   closing_ready : IsDone z u ps m.outcome m r qs v → IsClosing z u ps m r qs v → is_ended m.closing ≡ true → IsReady z v own qs r.stock
   closing_ready done k is =
-      let closed = closed_stock z (key_of m.job r).items (value_of m.job r) k.ended v k.waiting qs m r m.closing is k.fits in
+      let closed = closed_stock z r.row.key.items r.row.value k.ended v k.waiting qs m r m.closing is k.fits in
       let pass = (left_opened z u ps m r qs v k).pass in
       after done (ap (λ (t : View). t.pass) closed.0.is ∙ (pass ∙ ap (λ (t : View). t.pass) k.frame.frame.is)) (ap (λ (t : View). t.hand) closed.0.is) closed.1
 
   done_ready : (o : Outcome) → m.outcome ≡ o → IsDone z u ps o m r qs v → IsReady z v own qs r.stock
   done_ready (Crowded b) is done =
       after (subst (λ (o : Outcome). IsDone z u ps o m r qs v) (sym is) done) (ap (λ (t : View). t.pass) done.0.only) (ap (λ (t : View). t.hand) done.0.only ∙ ready.hand)
-      (empty_has z (key_of m.job r).items (value_of m.job r) u r.stock done.2 ready.hand)
+      (empty_has z r.row.key.items r.row.value u r.stock done.2 ready.hand)
   done_ready New is done = closing_ready (subst (λ (o : Outcome). IsDone z u ps o m r qs v) (sym is) done) done.0 done.1
   done_ready (Present stands) is done = closing_ready (subst (λ (o : Outcome). IsDone z u ps o m r qs v) (sym is) done) done.0 done.1
   done_ready (Gone value) is done = closing_ready (subst (λ (o : Outcome). IsDone z u ps o m r qs v) (sym is) done) done.0 done.1

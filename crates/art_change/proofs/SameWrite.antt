@@ -1,9 +1,7 @@
 -- A write is the same before its first step, and after the steps of one stage and of the next.
-use Rattle.std.proofs.Common.{◌∙◌, refl, subst}
-use Rattle.art_erase.specs.ArtAttempt.declared.rooms.Room.{Room}
-use Rattle.art_change.specs.Tries.{SameKey}
+use Rattle.std.proofs.Common.{◌∙◌, refl}
+use Rattle.art_attempt.specs.declared.rooms.Room.{Room}
 use Rattle.art_change.specs.Writes.{IsSameWrite}
-use Rattle.art_change.specs.declared.tries.Job.{Job}
 use Rattle.art_change.specs.declared.writes.Write.{Write}
 
 pub same_still : (m : Write) (r : Room) → IsSameWrite m r m r
@@ -19,9 +17,7 @@ pub same_then : (m : Write) (r : Room) (n : Write) (s : Room) (o : Write) (t : R
 same_then m r n s o t one two = record {
   job = two.job ∙ one.job;
   turns = two.turns ∙ one.turns;
-  key =
-      let more = subst (λ (j : Job). SameKey j s t) one.job two.key in
-      record { key = more.key ∙ one.key.key; value = more.value ∙ one.key.value };
+  key = record { key = two.key.key ∙ one.key.key; value = two.key.value ∙ one.key.value };
   refuses = λ will. two.refuses (one.refuses will);
   apart = λ is. two.apart (one.apart is);
 }

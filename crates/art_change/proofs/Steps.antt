@@ -1,20 +1,18 @@
 -- Each step of a write is as many as its answer says; what it commits is what its attempt is of.
-use Rattle.std.proofs.Common.{◌≡◌, ◌≢◌, ◌⊎◌, ◌+◌, ◌≤◌, List, ℕ, Bool, Some, inl, inr, refl, sym, subst, arith}
+use Rattle.std.proofs.Common.{◌≡◌, ◌≢◌, ◌+◌, ◌≤◌, List, Bool, Some, refl, arith}
 use Rattle.art_cell.specs.declared.cells.Cell.{Cell}
-use Rattle.art_change.proofs.EitherKind.{try_key, try_makes, try_steps}
+use Rattle.art_attempt.proofs.Counts.{attempt_steps, makes_deed}
 use Rattle.art_change.proofs.FrameSteps.{IsFrame, closing_frame, frame_one, frame_plain, opening_frame}
-use Rattle.art_change.specs.Made.{IsMadeBy, key_by}
-use Rattle.art_change.specs.Tries.{key_of}
+use Rattle.art_attempt.specs.Cases.{made_by}
 use Rattle.art_change.specs.Writes.{Fits, StageFits, asks, asks_at, deed_at}
 use Rattle.art_change.specs.declared.writes.Stage.{Stage}
 use Rattle.art_change.specs.declared.writes.Stage.TheVariants as stage
 use Rattle.art_change.specs.declared.writes.Write.{Write}
 use Rattle.art_epoch.specs.declared.limbo.Place.{Place}
-use Rattle.art_erase.proofs.ArtAttempt.Given.{plain_row}
-use Rattle.art_erase.specs.ArtAttempt.Asking.{Answers}
-use Rattle.art_erase.specs.ArtAttempt.declared.rooms.Room.{Room}
+use Rattle.art_attempt.proofs.Given.{plain_row}
+use Rattle.art_attempt.specs.Asking.{Answers}
+use Rattle.art_attempt.specs.declared.rooms.Room.{Room}
 use Rattle.art_machine.proofs.Counting.{steps_few}
-use Rattle.art_machine.specs.Acting.{IsPlain}
 use Rattle.art_machine.specs.declared.actions.Action.{Action}
 use Rattle.art_machine.specs.declared.actions.Action.TheVariants.{Commit}
 use Rattle.art_machine.specs.declared.actions.Answer.{Answer}
@@ -40,7 +38,7 @@ module _ (z : Sizes) (u : View) (ps : List Place) (m : Write) (r : Room) (qs : L
     few_at : (s : Stage) → StageFits z u ps s m r qs v → asks_at s m r qs ≡ Some a → w.steps ≤ v.steps + 1
     few_at stage.Opening fits is = frame_few (opening_frame m.opening qs a is)
     few_at stage.Trying fits is =
-        let made = try_steps z fits.0.began r v w a answer m.job m.trying row fits.0.fits is in
+        let made = attempt_steps z fits.0.began m.attempt r v w a answer row fits.0.fits is in
         let few = steps_few answer in
         omega (arith, made, few)
     few_at stage.Closing fits is = frame_few (closing_frame m.closing r.stock a is)
@@ -50,22 +48,11 @@ module _ (z : Sizes) (u : View) (ps : List Place) (m : Write) (r : Room) (qs : L
     write_few fits is = few_at m.stage fits.stage is
 
   module _ (c : Cell) (b : Bool) where
-    makes_at : (s : Stage) → StageFits z u ps s m r qs v → asks_at s m r qs ≡ Some (Commit c b) → IsMadeBy m.trying r
+    makes_at : (s : Stage) → StageFits z u ps s m r qs v → asks_at s m r qs ≡ Some (Commit c b) → r.change.effects.deed ≡ made_by m.attempt.job r.row r.gone
     makes_at stage.Opening fits is = absurd (opening_frame m.opening qs (Commit c b) is)
-    makes_at stage.Trying fits is = try_makes z fits.0.began r v c b m.job m.trying fits.0.fits is
+    makes_at stage.Trying fits is = makes_deed z fits.0.began m.attempt r v c b fits.0.fits is
     makes_at stage.Closing fits is = absurd (closing_frame m.closing r.stock (Commit c b) is)
     makes_at stage.Ended fits is = absurd (cc)
 
-    pub write_made : Fits z u ps m r qs v → asks m r qs ≡ Some (Commit c b) → IsMadeBy m.trying r
+    pub write_made : Fits z u ps m r qs v → asks m r qs ≡ Some (Commit c b) → r.change.effects.deed ≡ made_by m.attempt.job r.row r.gone
     write_made fits is = makes_at m.stage fits.stage is
-
-  module _ (A : List ℕ → Type 0) (a : Action) (may : A (key_of m.job r).items) where
-    key_at : (s : Stage) → StageFits z u ps s m r qs v → asks_at s m r qs ≡ Some a → IsPlain a ⊎ A (key_by m.trying r)
-    key_at stage.Opening fits is = inl (frame_plain a (opening_frame m.opening qs a is))
-    key_at stage.Trying fits is = inr (subst A (sym (try_key z fits.0.began r v m.job m.trying fits.0.fits)) may)
-    key_at stage.Closing fits is = inl (frame_plain a (closing_frame m.closing r.stock a is))
-    key_at stage.Ended fits is = absurd (cc)
-
-    -- what is brought about is of the key of the job
-    pub write_key : Fits z u ps m r qs v → asks m r qs ≡ Some a → IsPlain a ⊎ A (key_by m.trying r)
-    write_key fits is = key_at m.stage fits.stage is

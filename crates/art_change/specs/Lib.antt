@@ -1,9 +1,8 @@
 -- the crates below, for those above to name
-pub use Rattle.art_erase.specs.ArtAttempt
-pub use Rattle.art_erase.specs.ArtPlan
-pub use Rattle.art_erase.specs as ArtErase
+pub use Rattle.art_attempt.specs as ArtAttempt
+pub use Rattle.art_attempt.specs.ArtPlan
+pub use Rattle.art_attempt.specs.ArtFrame
+pub use Rattle.art_attempt.specs.ArtMake
 pub use Rattle.art_find.specs as ArtFind
-pub use Rattle.art_erase.specs.ArtGather
-pub mod Made
-pub mod Tries
+pub use Rattle.art_attempt.specs.ArtGather
 pub mod Writes

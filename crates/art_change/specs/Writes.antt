@@ -1,18 +1,17 @@
 -- What a write asks, and what it knows between two of its steps: its opening, its attempts, its close.
 use Rattle.std.specs.Prelude.{◌≡◌, ◌≢◌, ◌⊎◌, ℕ, ◌+◌, ◌-◌, ◌*◌, ◌<◌, ◌≤◌, ◌==◌, Bool, true, false, List, [], length, Option, Some, None, if◌then◌else◌, ⊤}
 use Rattle.arrayvec.specs.ArrayVec.{ArrayVec}
-use Rattle.art_erase.specs.ArtAttempt.Inserting.{IsFull, IsOverlap, present, tries_left}
-use Rattle.art_erase.specs.ArtAttempt.Trying.{IsLimited, StillTries}
-use Rattle.art_erase.specs.ArtAttempt.declared.rooms.Room.{Room}
+use Rattle.art_attempt.specs.Attempts as attempts
+use Rattle.art_attempt.specs.Attempts.{EndsBy, EndsSo, GoesBy, HasHand, IsFull, IsOverlap, IsRoom, absent, present, tries_left}
+use Rattle.art_attempt.specs.Trying.{IsLimited, StillTries}
+use Rattle.art_attempt.specs.declared.cases.Case.{Case}
+use Rattle.art_attempt.specs.declared.rooms.Room.{Room}
 use Rattle.art_cell.specs.declared.cells.Link.{Link}
-use Rattle.art_change.specs.Tries as tries
-use Rattle.art_change.specs.Tries.{EndFits, EndsSo, HasHand, IsRoom, key_of, value_of}
-use Rattle.art_change.specs.declared.tries.Job.{Job}
-use Rattle.art_change.specs.declared.tries.Job.TheVariants as job
-use Rattle.art_change.specs.declared.tries.Tried.{Tried}
-use Rattle.art_change.specs.declared.tries.Tried.TheVariants as tried
-use Rattle.art_change.specs.declared.tries.Trying.{Trying}
-use Rattle.art_change.specs.declared.tries.Trying.TheVariants.{Inserting, Erasing}
+use Rattle.art_attempt.specs.declared.attempts.Attempt.{Attempt}
+use Rattle.art_attempt.specs.declared.attempts.Ending.{Ending}
+use Rattle.art_attempt.specs.declared.attempts.Ending.TheVariants as ending
+use Rattle.art_attempt.specs.declared.attempts.Job.{Job}
+use Rattle.art_attempt.specs.declared.attempts.Job.TheVariants as job
 use Rattle.art_change.specs.declared.writes.Outcome.{Outcome}
 use Rattle.art_change.specs.declared.writes.Outcome.TheVariants.{New, Present, Gone, Absent, Full, Exhausted, Overlaps, Busy, Crowded}
 use Rattle.art_change.specs.declared.writes.Stage.{Stage}
@@ -21,22 +20,23 @@ use Rattle.art_change.specs.declared.writes.Write.{Write}
 use Rattle.art_epoch.specs.Limbo.{IsLimbo}
 use Rattle.art_epoch.specs.Pins.{MayPin}
 use Rattle.art_epoch.specs.declared.limbo.Place.{Place}
-use Rattle.art_erase.specs.Erasing.{GoesBy, absent}
-use Rattle.art_erase.specs.ArtFrame.Closings as closings
-use Rattle.art_erase.specs.ArtFrame.Closings.{ClosingFits}
-use Rattle.art_erase.specs.ArtFrame.Openings as openings
-use Rattle.art_erase.specs.ArtFrame.Openings.{IsCrowded, IsOpened, MayOpen, OpeningFits}
-use Rattle.art_erase.specs.ArtFrame.Stocks.{first_in, hinted_at}
-use Rattle.art_erase.specs.ArtFrame.declared.stocks.Stock.{Stock}
-use Rattle.art_erase.specs.ArtPlan.Insert.Puts.{inserted}
-use Rattle.art_erase.specs.ArtPlan.declared.insert.leaves.NewLeaf.{NewLeaf}
+use Rattle.art_frame.specs.Closings as closings
+use Rattle.art_frame.specs.Closings.{ClosingFits}
+use Rattle.art_frame.specs.Openings as openings
+use Rattle.art_frame.specs.Openings.{IsCrowded, IsOpened, MayOpen, OpeningFits}
+use Rattle.art_frame.specs.Stocks.{first_in, hinted_at}
+use Rattle.art_frame.specs.declared.stocks.Stock.{Stock}
+use Rattle.art_plan.specs.Insert.Puts.{inserted}
+use Rattle.art_plan.specs.declared.insert.leaves.NewLeaf.{NewLeaf}
+use Rattle.art_find.specs.declared.findings.Position.{Position}
+use Rattle.art_gather.specs.declared.lowering.Lowering.{Lowering}
 use Rattle.art_find.specs.Verdicts.{HasOverlap}
 use Rattle.art_machine.specs.declared.actions.Action.{Action}
 use Rattle.art_machine.specs.declared.actions.Action.TheVariants.{Free}
 use Rattle.art_machine.specs.declared.actions.Answer.{Answer}
 use Rattle.art_plan.specs.declared.changes.Change.{Change}
-use Rattle.art_erase.specs.ArtPlan.Remove.Removals.{removed}
-use Rattle.art_erase.specs.ArtPlan.declared.remove.leaves.OldLeaf.{OldLeaf}
+use Rattle.art_plan.specs.Remove.Removals.{removed}
+use Rattle.art_plan.specs.declared.remove.leaves.OldLeaf.{OldLeaf}
 use Rattle.art_step.specs.Events.{MakesEvent, SeesEvent}
 use Rattle.art_step.specs.Histories.{AreApart}
 use Rattle.art_step.specs.Shows.{Shows}
@@ -51,13 +51,13 @@ use Rattle.art_step.specs.declared.views.View.{View}
 
 abbrev pub asks_at : Stage → Write → Room → List Place → Option Action
 asks_at stage.Opening m r ps = openings.asks m.opening ps
-asks_at stage.Trying m r ps = tries.asks m.trying r
+asks_at stage.Trying m r ps = attempts.asks m.attempt r
 asks_at stage.Closing m r ps = closings.asks m.closing r.stock
 asks_at stage.Ended m r ps = None
 
 -- what the check of a place may tell
 abbrev pub deed_at : Write → Room → Deed
-deed_at m r = tries.deed_at m.trying r
+deed_at m r = attempts.deed_at m.attempt r
 
 -- the next step, where ps wait in limbo
 abbrev pub asks : Write → Room → List Place → Option Action
@@ -88,7 +88,7 @@ given None r = r
 -- a close takes at most seven
 abbrev pub left_at : Stage → Write → Room → List Place → ℕ
 left_at stage.Opening m r ps = openings.steps_left m.opening ps + tries_left m.left + 7
-left_at stage.Trying m r ps = tries.steps_left m.left m.trying + 7
+left_at stage.Trying m r ps = attempts.steps_left m.left m.attempt + 7
 left_at stage.Closing m r ps = closings.steps_left m.closing r.stock
 left_at stage.Ended m r ps = 0
 
@@ -99,11 +99,6 @@ steps_left m r ps = left_at m.stage m r ps
 -- so many in all, of so many passes, in so many turns
 abbrev pub most_steps : ℕ → ℕ → List Place → ℕ
 most_steps turns passes ps = turns + passes + length ps + 592
-
--- attempts that come anew, where so many turns are left after one that ended so
-abbrev pub ended_left : ℕ → Tried → ℕ
-ended_left left tried.Restart = tries_left left
-ended_left left e = 0
 
 -- ---- how it ends
 
@@ -118,15 +113,15 @@ abbrev pub or_busy : ℕ → Outcome → Outcome
 or_busy left o = if left == 0 then Busy else o
 
 -- how the write ends by how an attempt did, if it does not try anew
-abbrev pub outcome_of : ℕ → Tried → Option Outcome
-outcome_of left tried.New = Some New
-outcome_of left (tried.Present stands) = Some (Present stands)
-outcome_of left (tried.Gone value) = Some (Gone value)
-outcome_of left tried.Absent = Some Absent
-outcome_of left (tried.Full pool) = Some (or_busy left (Full pool))
-outcome_of left (tried.Exhausted c) = Some (Exhausted c)
-outcome_of left tried.Overlaps = Some (or_busy left Overlaps)
-outcome_of left tried.Restart = None
+abbrev pub outcome_of : ℕ → Ending → Option Outcome
+outcome_of left ending.New = Some New
+outcome_of left (ending.Present stands) = Some (Present stands)
+outcome_of left (ending.Gone value) = Some (Gone value)
+outcome_of left ending.Absent = Some Absent
+outcome_of left (ending.Full pool) = Some (or_busy left (Full pool))
+outcome_of left (ending.Exhausted c) = Some (Exhausted c)
+outcome_of left ending.Overlaps = Some (or_busy left Overlaps)
+outcome_of left ending.Restart = None
 
 -- a row with this key and this value, and a leaf that had them
 abbrev pub row_of : ArrayVec ℕ → ℕ → NewLeaf
@@ -140,37 +135,54 @@ abbrev pub told_by : Outcome → Job → ArrayVec ℕ → ℕ → Option Deed
 told_by New job.Insert k value = Some (inserted (row_of k value))
 told_by (Present stands) job.Insert k value = Some (present (row_of k value) stands)
 told_by (Gone had) job.Remove k value = Some (removed (leaf_of k had))
-told_by Absent job.Remove k value = Some (absent (leaf_of k value))
+told_by Absent job.Remove k value = Some (absent (row_of k value))
 told_by o j k value = None
 
 -- how it stands when the last attempt has ended, of a pass that had the view u when that began; so many turns are left
-abbrev pub HasOutcome : Sizes → View → Job → Trying → Room → Outcome → ℕ → View → Type 0
-HasOutcome z u j t r New left v = EndFits z u j t r tried.New v
-HasOutcome z u j t r (Present stands) left v = EndFits z u j t r (tried.Present stands) v
-HasOutcome z u j t r (Gone value) left v = EndFits z u j t r (tried.Gone value) v
-HasOutcome z u j t r Absent left v = EndFits z u j t r tried.Absent v
-HasOutcome z u j t r (Full pool) left v = EndFits z u j t r (tried.Full pool) v
-HasOutcome z u j t r (Exhausted c) left v = EndFits z u j t r (tried.Exhausted c) v
-HasOutcome z u j t r Overlaps left v = EndFits z u j t r tried.Overlaps v
-HasOutcome z u j t r Busy left v = EndsSo z u j r v × (left ≡ 0)
-HasOutcome z u j t r (Crowded b) left v = ⊥
+abbrev pub OutcomeBy : Sizes → View → Job → Position → Case → Lowering → Room → Outcome → ℕ → View → Type 0
+OutcomeBy z u j t c l r New left v = EndsBy z u j t c l r ending.New v
+OutcomeBy z u j t c l r (Present stands) left v = EndsBy z u j t c l r (ending.Present stands) v
+OutcomeBy z u j t c l r (Gone value) left v = EndsBy z u j t c l r (ending.Gone value) v
+OutcomeBy z u j t c l r Absent left v = EndsBy z u j t c l r ending.Absent v
+OutcomeBy z u j t c l r (Full pool) left v = EndsBy z u j t c l r (ending.Full pool) v
+OutcomeBy z u j t c l r (Exhausted x) left v = EndsBy z u j t c l r (ending.Exhausted x) v
+OutcomeBy z u j t c l r Overlaps left v = EndsBy z u j t c l r ending.Overlaps v
+OutcomeBy z u j t c l r Busy left v = EndsSo z u r v × (left ≡ 0)
+OutcomeBy z u j t c l r (Crowded b) left v = ⊥
+
+-- of an attempt of this job
+pub record HasOutcome (z : Sizes) (u : View) (j : Job) (t : Attempt) (r : Room) (o : Outcome) (left : ℕ) (v : View) : Type 0 where
+  pub job : t.job ≡ j
+  pub fits : OutcomeBy z u t.job t.position t.case t.lowering r o left v
 
 -- ---- what it knows, of a pass that had the view u when it began, where ps waited
 
-pub record MayWrite (z : Sizes) (u : View) (own : ℕ) (j : Job) (ps : List Place) (r : Room) : Type 0 where
+-- an attempt of this job at its beginning, of whatever room, by whatever pass that may make one
+pub record IsFirst (j : Job) (t : Attempt) : Type 0 where
+  pub job : t.job ≡ j
+  pub going : attempts.ended_at t ≡ None
+  pub few : (left : ℕ) → attempts.steps_left left t ≤ tries_left left
+  pub fits : (z : Sizes) (u : View) (r : Room) → IsRoom z r → StillTries u u → HasHand z u r → attempts.Fits z u t r u
+
+-- the row is the same, but for the number that its leaf has
+pub record SameRow (r s : Room) : Type 0 where
+  pub key : s.row.key ≡ r.row.key
+  pub value : s.row.value ≡ r.row.value
+
+pub record MayWrite (z : Sizes) (u : View) (own : ℕ) (ps : List Place) (r : Room) : Type 0 where
   pub frame : MayOpen z u own z.passes ps
-  pub room : IsRoom z j r
-  pub has : HasHand z j u r
+  pub room : IsRoom z r
+  pub has : HasHand z u r
 
 pub record IsOpening (z : Sizes) (u : View) (ps : List Place) (m : Write) (r : Room) (qs : List Place) (v : View) : Type 0 where
   pub opening : OpeningFits z u ps m.opening qs v
   pub going : openings.ended_at m.opening ≡ None
   pub free : u.held ≡ []
-  pub has : HasHand z m.job u r
+  pub has : HasHand z u r
   pub later : u.steps ≤ v.steps
   pub full : m.left ≡ m.turns
   pub fresh : m.restarts ≡ 0
-  pub first : tries.IsFirst m.job m.trying
+  pub first : IsFirst m.job m.attempt
 
 -- the pass was pinned, and no step was taken back
 pub record WasOpened (z : Sizes) (u opened : View) (ps qs : List Place) : Type 0 where
@@ -190,13 +202,14 @@ pub record IsTrying (z : Sizes) (u : View) (ps : List Place) (m : Write) (r : Ro
   pub began : View
   pub frame : WasOpened z u opened ps qs
   pub begun : HasBegun z opened m.restarts began
-  pub fits : tries.Fits z began m.job m.trying r v
-  pub going : tries.ended_at m.trying ≡ None
+  pub job : m.attempt.job ≡ m.job
+  pub fits : attempts.Fits z began m.attempt r v
+  pub going : attempts.ended_at m.attempt ≡ None
   pub counted : opened.steps + m.turns ≤ v.steps + m.left
 
 -- a turn is left, where nothing is held
 abbrev pub HasTurn : Write → Type 0
-HasTurn m = tries.is_free m.trying ≡ true → 0 < m.left
+HasTurn m = attempts.is_free m.attempt ≡ true → 0 < m.left
 
 -- the last attempt has ended, when these numbers were in hand and those places waited
 pub record IsClosing (z : Sizes) (u : View) (ps : List Place) (m : Write) (r : Room) (qs : List Place) (v : View) : Type 0 where
@@ -207,15 +220,15 @@ pub record IsClosing (z : Sizes) (u : View) (ps : List Place) (m : Write) (r : R
   pub waiting : List Place
   pub frame : WasOpened z u opened ps waiting
   pub begun : HasBegun z opened m.restarts began
-  pub outcome : HasOutcome z began m.job m.trying (record r { stock = stock }) m.outcome m.left ended
+  pub outcome : HasOutcome z began m.job m.attempt (record r { stock = stock }) m.outcome m.left ended
   pub later : ended.steps ≤ v.steps
   pub counted : opened.steps + m.turns ≤ ended.steps + m.left
-  pub fits : ClosingFits z (key_of m.job r).items (value_of m.job r) ended waiting (links_of (gone_by m.outcome r.change))
+  pub fits : ClosingFits z r.row.key.items r.row.value ended waiting (links_of (gone_by m.outcome r.change))
       m.closing qs r.stock v
 
 -- limbo was crowded, or the close has ended
 abbrev pub IsDone : Sizes → View → List Place → Outcome → Write → Room → List Place → View → Type 0
-IsDone z u ps (Crowded b) m r qs v = IsCrowded z u v ps qs b × (u.held ≡ []) × HasHand z m.job u r × (m.restarts ≡ 0)
+IsDone z u ps (Crowded b) m r qs v = IsCrowded z u v ps qs b × (u.held ≡ []) × HasHand z u r × (m.restarts ≡ 0)
 IsDone z u ps o m r qs v = IsClosing z u ps m r qs v × (closings.is_ended m.closing ≡ true)
 
 abbrev pub StageFits : Sizes → View → List Place → Stage → Write → Room → List Place → View → Type 0
@@ -225,7 +238,7 @@ StageFits z u ps stage.Closing m r qs v = IsClosing z u ps m r qs v × (closings
 StageFits z u ps stage.Ended m r qs v = IsDone z u ps m.outcome m r qs v
 
 pub record Fits (z : Sizes) (u : View) (ps : List Place) (m : Write) (r : Room) (qs : List Place) (v : View) : Type 0 where
-  pub room : IsRoom z m.job r
+  pub room : IsRoom z r
   pub stage : StageFits z u ps m.stage m r qs v
 
 -- ---- a write that is given up
@@ -278,16 +291,17 @@ pub record IsFresh (z : Sizes) (u : View) (own : ℕ) : Type 0 where
   pub limbo : u.limbo ≡ []
 
 -- where an insert was refused as full or as an overlap: its ground, of a check after the view u, by what the pass has at the end
-abbrev pub IsRefusedBy : Sizes → View → Trying → Room → Outcome → View → Type 0
-IsRefusedBy z u (Inserting m) r (Full pool) v = IsFull z u m.position r pool v
-IsRefusedBy z u (Inserting m) r Overlaps v = IsOverlap z u m.position r v
-IsRefusedBy z u t r o v = ⊤
+abbrev pub IsRefusedBy : Sizes → View → Attempt → Room → Outcome → View → Type 0
+IsRefusedBy z u m r (Full pool) v = IsFull z u m.position r pool v
+IsRefusedBy z u m r Overlaps v = IsOverlap z u m.position r v
+IsRefusedBy z u m r o v = ⊤
 
--- where a removal made its change, or gave it up for a counter: the way by which the leaf goes, by what the pass has at the end
-abbrev pub IsErasedBy : Sizes → View → Trying → Room → Outcome → View → Type 0
-IsErasedBy z u (Erasing m) r (Gone value) v = GoesBy z u m.position m.way r v
-IsErasedBy z u (Erasing m) r (Exhausted c) v = GoesBy z u m.position m.way r v
-IsErasedBy z u t r o v = ⊤
+-- where the change was made, or given up for a counter: it is the one that what was read and found tells, by what the pass has at the end
+abbrev pub IsChangedBy : Sizes → View → Attempt → Room → Outcome → View → Type 0
+IsChangedBy z u m r New v = GoesBy z u m.position m.case r v
+IsChangedBy z u m r (Gone value) v = GoesBy z u m.position m.case r v
+IsChangedBy z u m r (Exhausted c) v = GoesBy z u m.position m.case r v
+IsChangedBy z u m r o v = ⊤
 
 -- it ended so, with what its outcome came of: as a machine of this job has it that was run to its end, with these turns and restarts
 pub record HasGround (z : Sizes) (u : View) (j : Job) (ps : List Place) (turns restarts : ℕ) (o : Outcome) (r : Room) (qs : List Place)
@@ -298,8 +312,8 @@ pub record HasGround (z : Sizes) (u : View) (j : Job) (ps : List Place) (turns r
   pub restarts_are : machine.restarts ≡ restarts
   pub outcome_is : machine.outcome ≡ o
   pub done : IsDone z u ps o machine r qs v
-  pub refused : IsRefusedBy z u machine.trying r o v
-  pub erased : IsErasedBy z u machine.trying r o v
+  pub refused : IsRefusedBy z u machine.attempt r o v
+  pub changed : IsChangedBy z u machine.attempt r o v
 
 -- so many steps were counted as there were turns, and in a table within its limits these are few beside the failures
 pub record UsedTurns (z : Sizes) (u : View) (turns : ℕ) (v : View) : Type 0 where
@@ -313,7 +327,7 @@ pub record HasCounted (z : Sizes) (u : View) (turns restarts : ℕ) (o : Outcome
 
 -- it did not try anew, or this answer to its attempt was why
 abbrev pub RestartsBy : Write → Write → Answer → Type 0
-RestartsBy m next answer = (next.restarts ≡ m.restarts) ⊎ ((t : Trying) × tries.IsRestartBy m.trying t answer)
+RestartsBy m next answer = (next.restarts ≡ m.restarts) ⊎ ((t : Attempt) × attempts.IsRestartBy m.attempt.stage t.apply answer)
 
 -- ---- an overlap
 
@@ -336,14 +350,14 @@ NoneOverlaps A z k v w = AreApart A ⊎ (FindsOverlap z k v w → ⊥)
 pub record IsSameWrite (m : Write) (r : Room) (n : Write) (s : Room) : Type 0 where
   pub job : n.job ≡ m.job
   pub turns : n.turns ≡ m.turns
-  pub key : tries.SameKey m.job r s
+  pub key : SameRow r s
   pub refuses : WillRefuse m → WillRefuse n
   pub apart : IsApart m → IsApart n
 
 -- that became the outcome only where this answer to its attempt was why
 abbrev pub OverlapsBy : Write → Write → Answer → Type 0
 OverlapsBy m next answer = next.outcome ≡ Overlaps → (m.outcome ≡ Overlaps) ⊎
-    ((m.stage ≡ stage.Trying) × tries.IsOverlapBy m.trying answer)
+    ((m.stage ≡ stage.Trying) × attempts.IsOverlapBy m.attempt answer)
 
 -- ---- what is answered
 

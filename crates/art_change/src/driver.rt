@@ -1,23 +1,17 @@
 //! Makes the steps of a write.
-ghost use Rattle.std.specs.Prelude.{◌≡◌, ◌⊎◌, ◌+◌, ◌<◌, ◌≤◌, Bool, List, None, Some};
-ghost use Rattle.art_cell.specs.declared.cells.Cell.{Cell as CellOf};
-ghost use Rattle.art_change.specs.Tries.{SameKey, deed_at, key_of};
-ghost use Rattle.art_change.specs.Made.{IsMadeBy, key_by};
-ghost use Rattle.art_change.specs.Writes.{Fits, IsApart, NoneOverlaps, RestartsBy, WillRefuse, asks, deed_at as deed_of};
+ghost use Rattle.std.specs.Prelude.{◌≡◌, ◌+◌, ◌<◌, ◌≤◌, List, None, Some};
+ghost use Rattle.art_change.specs.Writes.{Fits, IsApart, NoneOverlaps, RestartsBy, SameRow, WillRefuse, asks, deed_at as deed_of};
 ghost use Rattle.art_change.specs.Writes.{ended_at, steps_left};
 ghost use Rattle.art_change.specs.declared.writes.Outcome.{Outcome as OutcomeOf};
 ghost use Rattle.art_epoch.specs.Limbo.{places_of};
 ghost use Rattle.art_epoch.specs.declared.limbo.Place.{Place};
-ghost use Rattle.art_erase.specs.ArtAttempt.Asking.{Answers, IsAllowed};
-ghost use Rattle.art_machine.specs.Acting.{IsPlain, PassesAmong};
-ghost use Rattle.art_machine.specs.declared.actions.Action.TheVariants.{Commit as commit};
+ghost use Rattle.art_attempt.specs.Asking.{Answers, IsAllowed};
 ghost use Rattle.art_step.specs.Histories.{AreApart};
 ghost use Rattle.art_step.specs.declared.views.View.{View};
 
-use crate::{Trying, Write};
+use crate::Write;
+use art_attempt::{Room, make};
 use art_epoch::Limbo;
-use art_erase::art_attempt::{Room, make as make_insert};
-use art_erase::make as make_removal;
 use art_machine::{Action, Answer};
 use art_step::EpochSteps;
 
@@ -28,25 +22,6 @@ pub struct Stepped {
     pub answer: Answer,
 }
 
-/// Makes the step that a write asks for, whose attempt this is.
-fn make<S: EpochSteps>(steps: &mut S, action: Action, trying: &Trying, room: &Room) -> Answer
-    requires admitted { IsPlain action ⊎ S.admits steps.old (key_by trying.now room.now) }
-    requires deed { (c : CellOf) (b : Bool) → action ≡ commit c b → IsMadeBy trying.now room.now }
-    requires allowed { IsAllowed (S.sizes steps.old) (deed_at trying.now room.now) room.now.change (S.view steps.old) action }
-    ensures only { S.only steps.old steps.new }
-    ensures row { Answers (S.sizes steps.old) (deed_at trying.now room.now) room.now.change action result
-        (S.view steps.old) (S.view steps.new) }
-    ensures keys { PassesAmong (S.admits steps.old) (S.sizes steps.old) (S.view steps.old) action result }
-{
-    match trying {
-        Trying::Inserting(inserting) => {
-            let stands = inserting.found();
-            make_insert(steps, action, &room.row, stands, &room.change)
-        }
-        Trying::Erasing(_) => make_removal(steps, action, &room.gone, &room.change),
-    }
-}
-
 /// Makes the next step of a write: one step, or none where a counter is at its end.
 pub fn step<S: EpochSteps>(
     steps: &mut S,
@@ -54,21 +29,21 @@ pub fn step<S: EpochSteps>(
     room: &mut Room,
     limbo: &mut Limbo,
 ) -> Stepped
-    requires admitted { S.admits steps.old (key_of write.old.job room.old).items }
+    requires admitted { S.admits steps.old room.old.row.key.items }
     requires going { ended_at write.old ≡ None }
     requires fits { (u : View) × (ps : List Place) ×
         Fits (S.sizes steps.old) u ps write.old room.old (places_of limbo.old) (S.view steps.old) }
     ensures only { S.only steps.old steps.new }
     ensures job { write.new.job ≡ write.old.job }
     ensures turns { write.new.turns ≡ write.old.turns }
-    ensures key { SameKey write.old.job room.old room.new }
+    ensures key { SameRow room.old room.new }
     ensures asked { asks write.old room.old (places_of limbo.old) ≡ Some result.action }
     ensures allowed { IsAllowed (S.sizes steps.old) (deed_of write.old room.old) room.old.change (S.view steps.old) result.action }
     ensures row { Answers (S.sizes steps.old) (deed_of write.old room.old) room.old.change result.action result.answer
         (S.view steps.old) (S.view steps.new) }
     ensures restarts { RestartsBy write.old write.new result.answer }
     ensures refuses { WillRefuse write.old → WillRefuse write.new }
-    ensures apart { NoneOverlaps (S.admits steps.old) (S.sizes steps.old) (key_of write.old.job room.old).items
+    ensures apart { NoneOverlaps (S.admits steps.old) (S.sizes steps.old) room.old.row.key.items
         (S.view steps.old) (S.view steps.new) → IsApart write.old → IsApart write.new }
     ensures one { (S.view steps.new).steps ≤ (S.view steps.old).steps + 1 }
     ensures left { steps_left write.new room.new (places_of limbo.new) < steps_left write.old room.old (places_of limbo.old) }
@@ -79,21 +54,21 @@ pub fn step<S: EpochSteps>(
     let Some(action) = write.next(room, limbo) else {
         unreachable!()
     };
-    let answer = make(steps, action, write.trying(), room);
+    let answer = make(steps, action, write.attempt(), room);
     write.told(room, limbo, answer);
     Stepped { action, answer }
 }
 
 /// Makes all steps that are left of a write.
 pub fn finish<S: EpochSteps>(steps: &mut S, write: &mut Write, room: &mut Room, limbo: &mut Limbo)
-    requires admitted { S.admits steps.old (key_of write.old.job room.old).items }
+    requires admitted { S.admits steps.old room.old.row.key.items }
     requires fits { (u : View) × (ps : List Place) ×
         Fits (S.sizes steps.old) u ps write.old room.old (places_of limbo.old) (S.view steps.old) }
     ensures only { S.only steps.old steps.new }
     ensures ended { (o : OutcomeOf) × (ended_at write.new ≡ Some o) }
     ensures job { write.new.job ≡ write.old.job }
     ensures turns { write.new.turns ≡ write.old.turns }
-    ensures key { SameKey write.old.job room.old room.new }
+    ensures key { SameRow room.old room.new }
     ensures refuses { WillRefuse write.old → WillRefuse write.new }
     ensures apart { AreApart (S.admits steps.old) → IsApart write.old → IsApart write.new }
     ensures left { (S.view steps.new).steps + steps_left write.new room.new (places_of limbo.new) ≤

@@ -5,8 +5,7 @@
 //! ```text
 //! Opening ── what waits in limbo goes back; four places, or it is Crowded; the pass is pinned
 //!    ▼
-//! Trying ─── one attempt after another (of an insert `art_attempt`, of a removal `art_erase`), as long as they end as `Restart` and
-//!            turns are left
+//! Trying ─── one attempt after another (`art_attempt`), as long as they end as `Restart` and turns are left
 //!    ▼
 //! Closing ── a label for what was unlinked, unused numbers back, the pass goes idle
 //! ```
@@ -23,7 +22,7 @@
 //!
 //! # What stands beside it
 //!
-//! `Write` is a value of scalars with `next` and `told`. Its `Job` says whether the row of the room comes, or the row of its leaf
+//! `Write` is a value of scalars with `next` and `told`. Its `Job` says whether the row of the room comes, or the row with its key
 //! goes. The room of its attempts and the limbo of the pass stand beside it.
 //!
 //! # What is proved
@@ -38,11 +37,10 @@
 #![tactic(auto)]
 
 mod driver;
-mod tries;
 mod writes;
 
-pub use art_erase::{art_attempt, art_gather};
+pub use art_attempt;
+pub use art_attempt::{Job, art_gather};
 pub use art_find;
 pub use driver::{Stepped, finish, step};
-pub use tries::{Job, Tried, Trying};
 pub use writes::{Outcome, Stage, Write};

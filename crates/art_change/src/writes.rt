@@ -1,32 +1,30 @@
 //! A write, step by step: its opening, its attempts, its close.
 ghost use Rattle.std.specs.Prelude.{◌≡◌, ◌≢◌, ◌⊎◌, ℕ, ◌+◌, ◌-◌, ◌<◌, ◌≤◌, List, [], length, Some, None, true, false};
-ghost use Rattle.art_erase.specs.ArtAttempt.Asking.{Answers};
-ghost use Rattle.art_erase.specs.ArtAttempt.Inserting.{tries_left};
-ghost use Rattle.art_erase.specs.ArtAttempt.declared.rooms.Room.{Room as RoomOf};
-ghost use Rattle.art_change.specs.Tries.{EndFits, HasHand, IsFirst, IsRoom, SameKey, asks as attempt_asks, is_free, key_of, value_of};
-ghost use Rattle.art_change.specs.Tries as tries;
-ghost use Rattle.art_change.specs.Writes.{Fits, HasAnswered, HasBegun, HasCounted, HasGround, HasOutcome, HasTurn, IsApart, IsClosing, IsOpening, IsReady, IsSameWrite, IsTrying, MayWrite, OverlapsBy, RestartsBy, WasOpened};
+ghost use Rattle.art_attempt.specs.Asking.{Answers};
+ghost use Rattle.art_attempt.specs.Attempts.{EndFits, HasHand, IsRoom, ended_left, is_free, tries_left};
+ghost use Rattle.art_attempt.specs.Attempts.{asks as attempt_asks};
+ghost use Rattle.art_attempt.specs.declared.rooms.Room.{Room as RoomOf};
+ghost use Rattle.art_change.specs.Writes.{Fits, HasAnswered, HasBegun, HasCounted, HasGround, HasOutcome, HasTurn, IsApart, IsClosing, IsFirst, IsOpening, IsReady, IsSameWrite, IsTrying, MayWrite, OverlapsBy, RestartsBy, SameRow, WasOpened};
 ghost use Rattle.art_change.specs.Writes.{HoldsOrTold, WillRefuse, freed_by, given, is_refusal, turns_used};
-ghost use Rattle.art_change.specs.Writes.{asks, asks_at, deed_at, ended_at, ended_left, gone_by, left_at, most_steps, or_busy, outcome_of, steps_left};
-ghost use Rattle.art_change.specs.declared.tries.Tried.TheVariants.{Restart as anew, Overlaps as tried_overlaps};
+ghost use Rattle.art_change.specs.Writes.{asks, asks_at, deed_at, ended_at, gone_by, left_at, most_steps, or_busy, outcome_of, steps_left};
+ghost use Rattle.art_attempt.specs.declared.attempts.Ending.TheVariants.{Restart as anew, Overlaps as attempt_overlaps};
 ghost use Rattle.art_change.specs.declared.writes.Outcome.TheVariants.{Overlaps as overlaps};
 ghost use Rattle.art_change.specs.declared.writes.Stage.TheVariants as stages;
 ghost use Rattle.art_epoch.specs.Limbo.{places_of};
 ghost use Rattle.art_epoch.specs.declared.limbo.Place.{Place};
-ghost use Rattle.art_erase.specs.ArtFrame.Closings.{asks as closing_asks, is_ended};
-ghost use Rattle.art_erase.specs.ArtFrame.Openings.{asks as opening_asks};
-ghost use Rattle.art_erase.specs.ArtFrame.declared.stocks.Stock.{Stock as StockOf};
+ghost use Rattle.art_frame.specs.Closings.{asks as closing_asks, is_ended};
+ghost use Rattle.art_frame.specs.Openings.{asks as opening_asks};
+ghost use Rattle.art_frame.specs.declared.stocks.Stock.{Stock as StockOf};
 ghost use Rattle.art_machine.specs.Acting.{Answers as ActionAnswers, IsAllowed as IsActionAllowed};
 ghost use Rattle.art_machine.specs.declared.actions.Action.{Action as ActionOf};
 ghost use Rattle.art_step.specs.declared.deeds.Deed.{Deed};
 ghost use Rattle.art_step.specs.declared.views.Sizes.{Sizes};
 ghost use Rattle.art_step.specs.declared.views.View.{View};
 
-use crate::{Job, Tried, Trying};
+use art_attempt::art_frame::{Blocker, Closing, Opened, Opening};
+use art_attempt::{Attempt, Ending, Job, Room};
 use art_cell::{Cell, Pool};
 use art_epoch::Limbo;
-use art_erase::art_attempt::Room;
-use art_erase::art_frame::{Blocker, Closing, Opened, Opening};
 use art_machine::{Action, Answer, perform};
 use art_plan::Change;
 use art_step::EpochSteps;
@@ -70,13 +68,13 @@ pub enum Stage {
     Ended,
 }
 
-/// An insert of the row of a room, or a removal of its leaf. The room and the limbo of the pass stand beside it.
+/// An insert of the row of a room, or a removal of the row with its key. The room and the limbo of the pass stand beside it.
 #[derive(Clone, Copy)]
 pub struct Write {
     job: Job,
     stage: Stage,
     opening: Opening,
-    trying: Trying,
+    attempt: Attempt,
     closing: Closing,
     outcome: Outcome,
     turns: u32,
@@ -87,23 +85,23 @@ pub struct Write {
 
 impl Write {
     ghost use Rattle.std.specs.Prelude.{IfSome};
-    ghost use Rattle.art_erase.specs.ArtAttempt.Asking.{IsAllowed};
+    ghost use Rattle.art_attempt.specs.Asking.{IsAllowed};
 
     /// By the pass `own`, in so many turns.
     pub fn new(job: Job, own: u32, turns: u32, room: &Room, limbo: &Limbo) -> Write
         ensures job { result.job ≡ job }
         ensures turns { (result.turns ≡ turns) × (result.restarts ≡ 0) }
         ensures apart { IsApart result }
-        ensures left { (z : Sizes) (u : View) → MayWrite z u own job (places_of limbo.now) room.now →
+        ensures left { (z : Sizes) (u : View) → MayWrite z u own (places_of limbo.now) room.now →
             steps_left result room.now (places_of limbo.now) ≤ most_steps turns z.passes (places_of limbo.now) }
-        ensures fits { (z : Sizes) (u : View) → MayWrite z u own job (places_of limbo.now) room.now →
+        ensures fits { (z : Sizes) (u : View) → MayWrite z u own (places_of limbo.now) room.now →
             Fits z u (places_of limbo.now) result room.now (places_of limbo.now) u }
     {
         Write {
             job,
             stage: Stage::Opening,
             opening: Opening::new(own, room.sizes.passes, limbo),
-            trying: Trying::new(job),
+            attempt: Attempt::new(job),
             closing: Closing::Ended,
             outcome: Outcome::Busy,
             turns,
@@ -139,7 +137,7 @@ impl Write {
         ensures restarts { RestartsBy self.old self.new answer }
         ensures refuses { WillRefuse self.old → WillRefuse self.new }
         ensures overlaps { OverlapsBy self.old self.new answer }
-        ensures key { SameKey self.old.job room.old room.new }
+        ensures key { SameRow room.old room.new }
         ensures fits { (z : Sizes) (u v w : View) (ps : List Place) (asked : ActionOf) →
             Fits z u ps self.old room.old (places_of limbo.old) v → asks self.old room.old (places_of limbo.old) ≡ Some asked →
             Answers z (deed_at self.old room.old) room.old.change asked answer v w →
@@ -158,7 +156,7 @@ impl Write {
     pub fn ended(&self) -> Option<Outcome>
         ensures at { result ≡ ended_at self.now }
         ensures answered { IfSome result (λ o. (z : Sizes) (u v : View) (ps qs : List Place) (r : RoomOf) →
-            Fits z u ps self.now r qs v → HasAnswered z u self.now.job o (key_of self.now.job r) (value_of self.now.job r) qs v) }
+            Fits z u ps self.now r qs v → HasAnswered z u self.now.job o r.row.key r.row.value qs v) }
         ensures counted { IfSome result (λ o. (z : Sizes) (u v : View) (ps qs : List Place) (r : RoomOf) →
             Fits z u ps self.now r qs v → HasCounted z u self.now.turns self.now.restarts o v) }
         ensures grounds { IfSome result (λ o. (z : Sizes) (u v : View) (ps qs : List Place) (r : RoomOf) →
@@ -211,9 +209,9 @@ impl Write {
         ensures fits { (z : Sizes) (u v : View) (ps qs : List Place) → Fits z u ps self.old room.now qs v →
             Fits z u ps self.new room.now qs v }
         ensures kept { result ≡ false → self.new ≡ self.old }
-        ensures why { result ≡ false → is_free self.old.trying ≡ false }
+        ensures why { result ≡ false → is_free self.old.attempt ≡ false }
     {
-        if !self.trying.is_free() {
+        if !self.attempt.is_free() {
             return false;
         }
         self.turns = self.turns.saturating_sub(self.left);
@@ -223,10 +221,10 @@ impl Write {
     }
 
     /// Its attempt.
-    pub(crate) fn trying(&self) -> &Trying
-        ensures { result.now ≡ self.now.trying }
+    pub(crate) fn attempt(&self) -> &Attempt
+        ensures { result.now ≡ self.now.attempt }
     {
-        &self.trying
+        &self.attempt
     }
 
     /// How often it tried anew.
@@ -256,7 +254,7 @@ impl Write {
         ensures going { (z : Sizes) (u v : View) (ps qs : List Place) → IsTrying z u ps self.now room.now qs v →
             (a : ActionOf) × (result ≡ Some a) }
     {
-        self.trying.next(room)
+        self.attempt.next(room)
     }
 
     /// What comes next of the close.
@@ -273,7 +271,7 @@ impl Write {
     fn open_on(&mut self, room: &mut Room, limbo: &mut Limbo, answer: Answer)
         requires stage { self.old.stage ≡ stages.Opening }
         requires told { (z : Sizes) × (u : View) × (v : View) × (w : View) × (ps : List Place) × (asked : ActionOf) ×
-            IsRoom z self.old.job room.old × IsOpening z u ps self.old room.old (places_of limbo.old) v ×
+            IsRoom z room.old × IsOpening z u ps self.old room.old (places_of limbo.old) v ×
             (opening_asks self.old.opening (places_of limbo.old) ≡ Some asked) × ActionAnswers z None asked answer v w }
         ensures job { self.new.job ≡ self.old.job }
         ensures turns { self.new.turns ≡ self.old.turns }
@@ -282,7 +280,7 @@ impl Write {
         ensures overlaps { self.new.outcome ≡ overlaps → self.old.outcome ≡ overlaps }
         ensures hints { room.new ≡ given (freed_by (opening_asks self.old.opening (places_of limbo.old))) room.old }
         ensures left { steps_left self.new room.new (places_of limbo.new) < left_at stages.Opening self.old room.old (places_of limbo.old) }
-        ensures fits { (z : Sizes) (u v w : View) (ps : List Place) (asked : ActionOf) → IsRoom z self.old.job room.old →
+        ensures fits { (z : Sizes) (u v w : View) (ps : List Place) (asked : ActionOf) → IsRoom z room.old →
             IsOpening z u ps self.old room.old (places_of limbo.old) v →
             opening_asks self.old.opening (places_of limbo.old) ≡ Some asked → ActionAnswers z None asked answer v w →
             Fits z u ps self.new room.new (places_of limbo.new) w }
@@ -304,7 +302,7 @@ impl Write {
     fn open_told(&mut self, room: &Room, limbo: &mut Limbo, answer: Answer)
         requires stage { self.old.stage ≡ stages.Opening }
         requires told { (z : Sizes) × (u : View) × (v : View) × (w : View) × (ps : List Place) × (asked : ActionOf) ×
-            IsRoom z self.old.job room.now × IsOpening z u ps self.old room.now (places_of limbo.old) v ×
+            IsRoom z room.now × IsOpening z u ps self.old room.now (places_of limbo.old) v ×
             (opening_asks self.old.opening (places_of limbo.old) ≡ Some asked) × ActionAnswers z None asked answer v w }
         ensures job { self.new.job ≡ self.old.job }
         ensures turns { self.new.turns ≡ self.old.turns }
@@ -312,7 +310,7 @@ impl Write {
         ensures refuses { self.old.left ≡ 0 → WillRefuse self.new }
         ensures overlaps { self.new.outcome ≡ overlaps → self.old.outcome ≡ overlaps }
         ensures left { steps_left self.new room.now (places_of limbo.new) < left_at stages.Opening self.old room.now (places_of limbo.old) }
-        ensures fits { (z : Sizes) (u v w : View) (ps : List Place) (asked : ActionOf) → IsRoom z self.old.job room.now →
+        ensures fits { (z : Sizes) (u v w : View) (ps : List Place) (asked : ActionOf) → IsRoom z room.now →
             IsOpening z u ps self.old room.now (places_of limbo.old) v →
             opening_asks self.old.opening (places_of limbo.old) ≡ Some asked → ActionAnswers z None asked answer v w →
             Fits z u ps self.new room.now (places_of limbo.new) w }
@@ -337,11 +335,11 @@ impl Write {
         ensures refuses { self.old.left ≡ 0 → WillRefuse self.new }
         ensures overlaps { self.new.outcome ≡ overlaps → self.old.outcome ≡ overlaps }
         ensures left { (qs : List Place) → steps_left self.new room.now qs ≤ tries_left self.old.left + 7 }
-        ensures fits { (z : Sizes) (u opened v : View) (ps qs : List Place) → IsRoom z self.old.job room.now → WasOpened z u opened ps qs →
-            HasBegun z opened self.old.restarts v → HasHand z self.old.job v room.now →
+        ensures fits { (z : Sizes) (u opened v : View) (ps qs : List Place) → IsRoom z room.now → WasOpened z u opened ps qs →
+            HasBegun z opened self.old.restarts v → HasHand z v room.now →
             opened.steps + self.old.turns ≤ v.steps + self.old.left → Fits z u ps self.new room.now qs v }
     {
-        self.trying = Trying::new(self.job);
+        self.attempt = Attempt::new(self.job);
         self.begin(room);
     }
 
@@ -353,10 +351,11 @@ impl Write {
         ensures restarts { self.new.restarts ≡ self.old.restarts }
         ensures refuses { self.old.left ≡ 0 → WillRefuse self.new }
         ensures overlaps { self.new.outcome ≡ overlaps → self.old.outcome ≡ overlaps }
-        ensures left { IsFirst self.old.job self.old.trying → (qs : List Place) → steps_left self.new room.now qs ≤ tries_left self.old.left + 7 }
-        ensures fits { IsFirst self.old.job self.old.trying → (z : Sizes) (u opened v : View) (ps qs : List Place) →
-            IsRoom z self.old.job room.now → WasOpened z u opened ps qs → HasBegun z opened self.old.restarts v →
-            HasHand z self.old.job v room.now → opened.steps + self.old.turns ≤ v.steps + self.old.left →
+        ensures left { IsFirst self.old.job self.old.attempt → (qs : List Place) →
+            steps_left self.new room.now qs ≤ tries_left self.old.left + 7 }
+        ensures fits { IsFirst self.old.job self.old.attempt → (z : Sizes) (u opened v : View) (ps qs : List Place) →
+            IsRoom z room.now → WasOpened z u opened ps qs → HasBegun z opened self.old.restarts v →
+            HasHand z v room.now → opened.steps + self.old.turns ≤ v.steps + self.old.left →
             Fits z u ps self.new room.now qs v }
     {
         if self.left == 0 {
@@ -375,9 +374,9 @@ impl Write {
         ensures restarts { self.new.restarts ≡ self.old.restarts }
         ensures outcome { self.new.outcome ≡ outcome }
         ensures left { (qs : List Place) → steps_left self.new room.now qs ≤ 7 }
-        ensures fits { (z : Sizes) (u opened began v : View) (ps qs : List Place) → IsRoom z self.old.job room.now →
+        ensures fits { (z : Sizes) (u opened began v : View) (ps qs : List Place) → IsRoom z room.now →
             WasOpened z u opened ps qs → HasBegun z opened self.old.restarts began →
-            HasOutcome z began self.old.job self.old.trying room.now outcome self.old.left v →
+            HasOutcome z began self.old.job self.old.attempt room.now outcome self.old.left v →
             opened.steps + self.old.turns ≤ v.steps + self.old.left → Fits z u ps self.new room.now qs v }
     {
         self.outcome = outcome;
@@ -387,7 +386,7 @@ impl Write {
 
     /// Makes its steps, stage after stage, as far as nothing stops it.
     pub(crate) fn hurry<S: EpochSteps>(&mut self, steps: &mut S, room: &mut Room, limbo: &mut Limbo)
-        requires admitted { S.admits steps.old (key_of self.old.job room.old).items }
+        requires admitted { S.admits steps.old room.old.row.key.items }
         requires fits { (u : View) × (ps : List Place) ×
             Fits (S.sizes steps.old) u ps self.old room.old (places_of limbo.old) (S.view steps.old) }
         ensures only { S.only steps.old steps.new }
@@ -407,7 +406,7 @@ impl Write {
 
     /// Makes the steps of the stage where it stands, one after another.
     fn hurry_stage<S: EpochSteps>(&mut self, steps: &mut S, room: &mut Room, limbo: &mut Limbo)
-        requires admitted { S.admits steps.old (key_of self.old.job room.old).items }
+        requires admitted { S.admits steps.old room.old.row.key.items }
         requires fits { (u : View) × (ps : List Place) ×
             Fits (S.sizes steps.old) u ps self.old room.old (places_of limbo.old) (S.view steps.old) }
         ensures only { S.only steps.old steps.new }
@@ -464,28 +463,28 @@ impl Write {
     fn try_on<S: EpochSteps>(&mut self, steps: &mut S, room: &mut Room)
         requires stage { self.old.stage ≡ stages.Trying }
         requires turn { HasTurn self.old }
-        requires admitted { S.admits steps.old (key_of self.old.job room.old).items }
-        requires trying { (u : View) × (ps : List Place) × (qs : List Place) × IsRoom (S.sizes steps.old) self.old.job room.old ×
+        requires admitted { S.admits steps.old room.old.row.key.items }
+        requires trying { (u : View) × (ps : List Place) × (qs : List Place) × IsRoom (S.sizes steps.old) room.old ×
             IsTrying (S.sizes steps.old) u ps self.old room.old qs (S.view steps.old) }
         ensures only { S.only steps.old steps.new }
         ensures job { self.new.job ≡ self.old.job }
         ensures turns { self.new.turns ≡ self.old.turns }
-        ensures key { SameKey self.old.job room.old room.new }
+        ensures key { SameRow room.old room.new }
         ensures apart { IsApart self.old → IsApart self.new }
         ensures going { ended_at self.new ≡ None }
         ensures later { (S.view steps.old).steps ≤ (S.view steps.new).steps }
         ensures left { (qs : List Place) → (S.view steps.new).steps + steps_left self.new room.new qs ≤
             (S.view steps.old).steps + left_at stages.Trying self.old room.old qs }
-        ensures fits { (u : View) (ps qs : List Place) → IsRoom (S.sizes steps.old) self.old.job room.old →
+        ensures fits { (u : View) (ps qs : List Place) → IsRoom (S.sizes steps.old) room.old →
             IsTrying (S.sizes steps.old) u ps self.old room.old qs (S.view steps.old) →
             Fits (S.sizes steps.old) u ps self.new room.new qs (S.view steps.new) }
     {
         let mut left = self.left;
-        self.trying.hurry(steps, room, &mut left);
+        self.attempt.hurry(steps, room, &mut left);
         self.left = left;
-        match self.trying.ended() {
+        match self.attempt.ended() {
             None => {}
-            Some(tried) => self.tried(room, tried),
+            Some(ending) => self.conclude(room, ending),
         }
     }
 
@@ -495,23 +494,23 @@ impl Write {
         requires turn { HasTurn self.old }
         requires told { (z : Sizes) × (u : View) × (v : View) × (w : View) × (ps : List Place) × (qs : List Place) ×
             (asked : ActionOf) ×
-            IsRoom z self.old.job room.old × IsTrying z u ps self.old room.old qs v × (attempt_asks self.old.trying room.old ≡ Some asked) ×
+            IsRoom z room.old × IsTrying z u ps self.old room.old qs v × (attempt_asks self.old.attempt room.old ≡ Some asked) ×
             Answers z (deed_at self.old room.old) room.old.change asked answer v w }
         ensures job { self.new.job ≡ self.old.job }
         ensures turns { self.new.turns ≡ self.old.turns }
         ensures restarts { RestartsBy self.old self.new answer }
         ensures overlaps { OverlapsBy self.old self.new answer }
-        ensures key { SameKey self.old.job room.old room.new }
-        ensures fits { (z : Sizes) (u v w : View) (ps qs : List Place) (asked : ActionOf) → IsRoom z self.old.job room.old →
-            IsTrying z u ps self.old room.old qs v → attempt_asks self.old.trying room.old ≡ Some asked →
+        ensures key { SameRow room.old room.new }
+        ensures fits { (z : Sizes) (u v w : View) (ps qs : List Place) (asked : ActionOf) → IsRoom z room.old →
+            IsTrying z u ps self.old room.old qs v → attempt_asks self.old.attempt room.old ≡ Some asked →
             Answers z (deed_at self.old room.old) room.old.change asked answer v w → Fits z u ps self.new room.new qs w }
         ensures left { (qs : List Place) → steps_left self.new room.new qs < left_at stages.Trying self.old room.old qs }
     {
-        self.trying.told(room, answer);
+        self.attempt.told(room, answer);
         self.left = self.left.saturating_sub(answer.steps());
-        match self.trying.ended() {
+        match self.attempt.ended() {
             None => self.turn(room),
-            Some(tried) => self.tried(room, tried),
+            Some(ending) => self.conclude(room, ending),
         }
     }
 
@@ -523,11 +522,11 @@ impl Write {
         ensures restarts { self.new.restarts ≡ self.old.restarts }
         ensures overlaps { self.new.outcome ≡ overlaps → self.old.outcome ≡ overlaps }
         ensures left { (qs : List Place) → steps_left self.new room.now qs ≤ left_at stages.Trying self.old room.now qs }
-        ensures fits { (z : Sizes) (u v : View) (ps qs : List Place) → IsRoom z self.old.job room.now →
+        ensures fits { (z : Sizes) (u v : View) (ps qs : List Place) → IsRoom z room.now →
             IsTrying z u ps self.old room.now qs v → Fits z u ps self.new room.now qs v }
     {
         if self.left == 0 {
-            if self.trying.is_free() {
+            if self.attempt.is_free() {
                 self.close(room, Outcome::Busy);
             }
         }
@@ -535,19 +534,19 @@ impl Write {
 
     /// An attempt ended so.
     #[inline(always)]
-    fn tried(&mut self, room: &Room, tried: Tried)
+    fn conclude(&mut self, room: &Room, ending: Ending)
         ensures going { ended_at self.new ≡ None }
         ensures job { self.new.job ≡ self.old.job }
         ensures turns { self.new.turns ≡ self.old.turns }
-        ensures restarts { (self.new.restarts ≡ self.old.restarts) ⊎ (tried ≡ anew) }
-        ensures overlaps { self.new.outcome ≡ overlaps → (self.old.outcome ≡ overlaps) ⊎ (tried ≡ tried_overlaps) }
-        ensures left { (qs : List Place) → steps_left self.new room.now qs ≤ ended_left self.old.left tried + 7 }
-        ensures fits { (z : Sizes) (u opened began v : View) (ps qs : List Place) → IsRoom z self.old.job room.now →
+        ensures restarts { (self.new.restarts ≡ self.old.restarts) ⊎ (ending ≡ anew) }
+        ensures overlaps { self.new.outcome ≡ overlaps → (self.old.outcome ≡ overlaps) ⊎ (ending ≡ attempt_overlaps) }
+        ensures left { (qs : List Place) → steps_left self.new room.now qs ≤ ended_left self.old.left ending + 7 }
+        ensures fits { (z : Sizes) (u opened began v : View) (ps qs : List Place) → IsRoom z room.now →
             WasOpened z u opened ps qs → HasBegun z opened self.old.restarts began →
-            EndFits z began self.old.job self.old.trying room.now tried v → opened.steps + self.old.turns ≤ v.steps + self.old.left →
-            Fits z u ps self.new room.now qs v }
+            self.old.attempt.job ≡ self.old.job → EndFits z began self.old.attempt room.now ending v →
+            opened.steps + self.old.turns ≤ v.steps + self.old.left → Fits z u ps self.new room.now qs v }
     {
-        match outcome_of(self.left, tried) {
+        match outcome_of(self.left, ending) {
             Some(outcome) => self.close(room, outcome),
             None => {
                 self.restarts = self.restarts.saturating_add(1);
@@ -560,15 +559,15 @@ impl Write {
     fn close_told(&mut self, room: &mut Room, limbo: &mut Limbo, answer: Answer)
         requires stage { self.old.stage ≡ stages.Closing }
         requires told { (z : Sizes) × (u : View) × (v : View) × (w : View) × (ps : List Place) × (asked : ActionOf) ×
-            IsRoom z self.old.job room.old × IsClosing z u ps self.old room.old (places_of limbo.old) v ×
+            IsRoom z room.old × IsClosing z u ps self.old room.old (places_of limbo.old) v ×
             (closing_asks self.old.closing room.old.stock ≡ Some asked) × ActionAnswers z None asked answer v w }
         ensures job { self.new.job ≡ self.old.job }
         ensures turns { self.new.turns ≡ self.old.turns }
         ensures restarts { self.new.restarts ≡ self.old.restarts }
         ensures refuses { is_refusal self.old.outcome ≡ true → WillRefuse self.new }
         ensures outcome { self.new.outcome ≡ self.old.outcome }
-        ensures key { SameKey self.old.job room.old room.new }
-        ensures fits { (z : Sizes) (u v w : View) (ps : List Place) (asked : ActionOf) → IsRoom z self.old.job room.old →
+        ensures key { SameRow room.old room.new }
+        ensures fits { (z : Sizes) (u v w : View) (ps : List Place) (asked : ActionOf) → IsRoom z room.old →
             IsClosing z u ps self.old room.old (places_of limbo.old) v → closing_asks self.old.closing room.old.stock ≡ Some asked →
             ActionAnswers z None asked answer v w → Fits z u ps self.new room.new (places_of limbo.new) w }
         ensures left { steps_left self.new room.new (places_of limbo.new) < left_at stages.Closing self.old room.old (places_of limbo.old) }
@@ -594,18 +593,18 @@ fn gone_by(outcome: Outcome, change: &Change) -> &[u64]
 }
 
 /// How the write ends by how an attempt did, if it does not try anew.
-fn outcome_of(left: u32, tried: Tried) -> Option<Outcome>
-    ensures { result ≡ outcome_of left tried }
+fn outcome_of(left: u32, ending: Ending) -> Option<Outcome>
+    ensures { result ≡ outcome_of left ending }
 {
-    match tried {
-        Tried::New => Some(Outcome::New),
-        Tried::Present(value) => Some(Outcome::Present(value)),
-        Tried::Gone(value) => Some(Outcome::Gone(value)),
-        Tried::Absent => Some(Outcome::Absent),
-        Tried::Full(pool) => Some(or_busy(left, Outcome::Full(pool))),
-        Tried::Exhausted(cell) => Some(Outcome::Exhausted(cell)),
-        Tried::Overlaps => Some(or_busy(left, Outcome::Overlaps)),
-        Tried::Restart => None,
+    match ending {
+        Ending::New => Some(Outcome::New),
+        Ending::Present(value) => Some(Outcome::Present(value)),
+        Ending::Gone(value) => Some(Outcome::Gone(value)),
+        Ending::Absent => Some(Outcome::Absent),
+        Ending::Full(pool) => Some(or_busy(left, Outcome::Full(pool))),
+        Ending::Exhausted(cell) => Some(Outcome::Exhausted(cell)),
+        Ending::Overlaps => Some(or_busy(left, Outcome::Overlaps)),
+        Ending::Restart => None,
     }
 }
 

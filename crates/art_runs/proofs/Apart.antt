@@ -1,6 +1,6 @@
 -- Where all keys spell tuples of a schema, no op meets a key that begins its own, or that its own begins: in a tree of such a world there
 -- is none.
-use Rattle.std.proofs.Common.{◌≡◌, ◌≢◌, ◌⊎◌, ◌+◌, ◌<◌, ◌∙◌, ℕ, true, List, [], ◌∷◌, Option, Some, None, length, inl, inr, refl, sym, ap, subst, arith, ⊎_elim}
+use Rattle.std.proofs.Common.{◌≡◌, ◌≢◌, ◌∙◌, ℕ, true, List, [], ◌∷◌, Option, Some, None, length, inl, inr, refl, sym, ap, subst, arith, ⊎_elim}
 use Rattle.std.proofs.lemmas.Bool.{cases_eq}
 use Rattle.std.proofs.lemmas.Option.{same_Some, slice_get_within}
 use Rattle.std.specs.List.{slice_get}
@@ -9,46 +9,40 @@ use Rattle.std.specs.Prelude.{slice_set}
 use Rattle.arrayvec.specs.ArrayVec.{ArrayVec}
 use Rattle.art_call.proofs.ArtAttempt.Overlaps.{none_overlaps}
 use Rattle.art_call.proofs.ArtChange.Overlaps.{overlap_counts}
-use Rattle.art_call.specs.ArtChange.Tries.{key_of}
 use Rattle.art_call.specs.ArtChange.Writes as writes
-use Rattle.art_call.specs.ArtChange.declared.tries.Job.{Job}
-use Rattle.art_call.specs.ArtChange.declared.tries.Job.TheVariants as job
 use Rattle.art_call.specs.ArtChange.declared.writes.Outcome.{Outcome as WriteOutcome}
 use Rattle.art_call.specs.ArtChange.declared.writes.Outcome.TheVariants as wrote
 use Rattle.art_call.specs.ArtChange.declared.writes.Stage.{Stage}
 use Rattle.art_call.specs.ArtChange.declared.writes.Stage.TheVariants as stage
-use Rattle.art_call.specs.ArtChange.declared.writes.Write.{Write}
 use Rattle.art_call.specs.ArtLook.declared.looks.Seen.{Seen}
 use Rattle.art_call.specs.ArtSeek.declared.walks.Outcome.{Outcome as SeekOutcome}
 use Rattle.art_call.specs.ArtSeek.declared.walks.Outcome.TheVariants as sought
-use Rattle.art_call.specs.Calls.{FindsOverlap, Get, GoesOn, Insert, IsAdmitted, IsCalling, Look, Remove, StaysApart, Wish, finds_overlap, outcome_of, stays_apart}
+use Rattle.art_call.specs.Calls.{FindsOverlap, Get, GoesOn, Insert, IsAdmitted, Look, Remove, StaysApart, Wish, finds_overlap, outcome_of, stays_apart}
 use Rattle.art_call.specs.Outcomes.{of_seek, of_write}
 use Rattle.art_call.specs.declared.callers.Call.{Call}
 use Rattle.art_call.specs.declared.callers.Call.TheVariants as call
 use Rattle.art_call.specs.declared.callers.Caller.{Caller}
-use Rattle.art_call.specs.declared.outcomes.Outcome.{Outcome}
 use Rattle.art_call.specs.declared.outcomes.Outcome.TheVariants as outcome
 use Rattle.art_key.specs.Spelling.{IsKeyOf}
 use Rattle.art_key.specs.declared.columns.Column.{Column}
 use Rattle.art_runs.proofs.Found.{found_is}
 use Rattle.art_runs.proofs.Histories.{OwnAdmitted, StaysSound, all_admitted, own_typed}
-use Rattle.art_runs.specs.Ops.{Goes, IsApart, IsRunOfOps, IsUnderWay, caller_in, has_ended, outcome_in}
+use Rattle.art_runs.specs.Ops.{Goes, IsApart, IsRunOfOps, IsUnderWay, caller_in, has_ended}
 use Rattle.art_runs.specs.TypedOps.{AreTyped, IsTypedOp}
 use Rattle.art_runs.specs.declared.ops.Op.{Op}
 use Rattle.art_step.proofs.AdmittedRows.{holds_among}
 use Rattle.art_step.proofs.SetsView.{member_front}
-use Rattle.art_step.specs.Histories.{AreAdmitted, StartsWith}
+use Rattle.art_step.specs.Histories.{AreAdmitted}
 use Rattle.art_step.specs.Steps.{OneStep}
 use Rattle.art_step.specs.Views.{Member}
 use Rattle.art_step.specs.WordRows.{view_at, views_of}
-use Rattle.art_step.specs.declared.views.Event.{Event}
 use Rattle.art_step.specs.declared.views.Sizes.{Sizes}
 use Rattle.art_step.specs.declared.views.View.{View}
 use Rattle.art_typed.proofs.Keys.{keys_apart}
 use Rattle.art_world.proofs.TakenTurns.{fits_on, placed_here, placed_there, run_keeps}
 use Rattle.art_world.proofs.ViewLists.{at_view}
 use Rattle.art_world.specs.Contents.{AtOnce, Contents, memory_now}
-use Rattle.art_world.specs.Turns.{IsTurn, MakesOne, NamesNobody, TakesTurn}
+use Rattle.art_world.specs.Turns.{IsTurn, TakesTurn}
 
 -- ---- how a call that stays apart ends
 
@@ -96,12 +90,12 @@ module _ (A : List ℕ → Type 0) (z : Sizes) (turns : ℕ) (u v : View) (c : C
   abbrev FindsAdmitted : Type 0
   FindsAdmitted = (k : List ℕ) × A k × writes.FindsOverlap z k x w
 
-  by_job : (m : Write) (j : Job) (k : ArrayVec ℕ) → m.job ≡ j → key_of j c.room ≡ k → A k.items → writes.FindsOverlap z (key_of m.job c.room).items x w → FindsAdmitted
-  by_job m j k job_is key_is is o = (k.items, is, subst (λ (a : ArrayVec ℕ). writes.FindsOverlap z a.items x w) (ap (λ (i : Job). key_of i c.room) job_is ∙ key_is) o)
+  by_key : (k : ArrayVec ℕ) → c.room.row.key ≡ k → A k.items → writes.FindsOverlap z c.room.row.key.items x w → FindsAdmitted
+  by_key k key_is is o = (k.items, is, subst (λ (a : ArrayVec ℕ). writes.FindsOverlap z a.items x w) key_is o)
 
   by_wish : (wish : Wish) (m : Call) → GoesOn z wish turns u c m v → IsAdmitted A wish → finds_overlap z c m x w → FindsAdmitted
-  by_wish (Insert k value) (call.Write m) goes is o = by_job m job.Insert k goes.job_is goes.key_is is o
-  by_wish (Remove k) (call.Write m) goes is o = by_job m job.Remove k goes.job_is goes.key_is is o
+  by_wish (Insert k value) (call.Write m) goes is o = by_key k goes.key_is is o
+  by_wish (Remove k) (call.Write m) goes is o = by_key k goes.key_is is o
   by_wish (Get k) (call.Write m) goes is o = absurd goes
   by_wish (Look lo hi) (call.Write m) goes is o = absurd goes
   by_wish wish (call.Seek m) goes is o = absurd o

@@ -14,7 +14,7 @@ use Rattle.art_call.specs.declared.callers.Caller.{Caller}
 use Rattle.art_call.specs.declared.outcomes.Outcome.{Outcome}
 use Rattle.art_call.specs.declared.outcomes.Outcome.TheVariants as outcome
 use Rattle.art_call.specs.ArtChange.Writes as writes
-use Rattle.art_call.specs.ArtChange.declared.tries.Job.{Job}
+use Rattle.art_call.specs.ArtAttempt.declared.attempts.Job.{Job}
 use Rattle.art_call.specs.ArtChange.declared.writes.Outcome.{Outcome as WriteOutcome}
 use Rattle.art_call.specs.ArtChange.declared.writes.Outcome.TheVariants as wrote
 use Rattle.art_call.specs.ArtChange.declared.writes.Write.{Write}

@@ -1,5 +1,5 @@
 -- An op that has its turns comes to an end: each is one step of its call, and only so many are left.
-use Rattle.std.proofs.Common.{◌≡◌, ◌≢◌, ◌⊎◌, ◌∙◌, ◌+◌, ◌<◌, ◌≤◌, ◌==◌, ℕ, List, [], ◌∷◌, Bool, true, false, Option, Some, None, length, cond, inl, inr, refl, sym, ap, subst, arith, ⊎_elim}
+use Rattle.std.proofs.Common.{◌≡◌, ◌≢◌, ◌⊎◌, ◌∙◌, ◌+◌, ◌<◌, ◌≤◌, ◌==◌, ℕ, List, [], ◌∷◌, true, false, Option, Some, None, length, cond, inl, inr, refl, sym, ap, subst, arith, ⊎_elim}
 use Rattle.std.proofs.lemmas.Bool.{cases_Bool, cases_eq, cond_both, eqb-true}
 use Rattle.std.proofs.lemmas.List.Sums.{sum_by-cons}
 use Rattle.std.proofs.lemmas.Option.{same_Some, slice_get_within}
@@ -19,7 +19,7 @@ use Rattle.art_call.specs.ArtSeek.Seeks as seeks
 use Rattle.art_call.specs.ArtSeek.declared.seeks.Seek.{Seek}
 use Rattle.art_call.specs.ArtSeek.declared.seeks.SeekStage.{SeekStage}
 use Rattle.art_call.specs.ArtSeek.declared.seeks.SeekStage.TheVariants as seek
-use Rattle.art_call.specs.Calls.{Get, GoesOn, Insert, IsCalling, Look, Remove, Wish, left_in, outcome_at, outcome_of, steps_left}
+use Rattle.art_call.specs.Calls.{Get, GoesOn, Insert, IsCalling, Look, Remove, Wish, left_in, outcome_of}
 use Rattle.art_call.specs.declared.callers.Call.{Call}
 use Rattle.art_call.specs.declared.callers.Call.TheVariants as call
 use Rattle.art_call.specs.declared.callers.Caller.{Caller}
@@ -36,7 +36,7 @@ use Rattle.art_step.specs.declared.views.View.{View}
 use Rattle.art_world.proofs.TakenTurns.{placed_here, placed_there, run_keeps, turn_others}
 use Rattle.art_world.proofs.ViewLists.{at_view}
 use Rattle.art_world.specs.Contents.{AtOnce, Contents, memory_now}
-use Rattle.art_world.specs.Turns.{IsTurn, MakesOne, NamesNobody, TakesTurn}
+use Rattle.art_world.specs.Turns.{IsTurn, NamesNobody, TakesTurn}
 
 -- ---- a call that goes on has a step left
 

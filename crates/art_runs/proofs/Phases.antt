@@ -6,28 +6,22 @@ use Rattle.std.proofs.lemmas.List.{length-append}
 use Rattle.std.specs.Option.{option_and_then, option_map}
 use Rattle.std.specs.Prelude.{◌==◌, ◌++◌}
 use Rattle.art_call.proofs.ArtAttempt.Free.{free_so}
-use Rattle.art_call.proofs.ArtAttempt.Finds as insert_finds
+use Rattle.art_call.proofs.ArtAttempt.Finds.{finding_allowed}
 use Rattle.art_call.proofs.ArtAttempt.Given.{ask_looks}
 use Rattle.art_call.proofs.ArtAttempt.ArtGather.Asked.{IsSupply, lower_asks_look, reads_look, supply_asks_supply, vouch_asks_look}
 use Rattle.art_make.proofs.Keeping.{IsMade, asks_made}
 use Rattle.art_call.proofs.ArtAttempt.Left.{tries_some}
-use Rattle.art_call.proofs.ArtErase.Finds as erase_finds
-use Rattle.art_call.specs.ArtAttempt.Inserting as inserts
-use Rattle.art_call.specs.ArtAttempt.Inserting.{free_at, held_left, last_left, apply_left, tries_left}
+use Rattle.art_call.specs.ArtAttempt.Attempts as attempts
+use Rattle.art_call.specs.ArtAttempt.Attempts.{free_at, held_left, last_left, apply_left, tries_left}
 use Rattle.art_make.specs.Apply.{is_begun}
 use Rattle.art_call.specs.ArtAttempt.Trying.{StillTries}
-use Rattle.art_call.specs.ArtAttempt.declared.inserting.Inserting.{Inserting as Insertion}
-use Rattle.art_call.specs.ArtAttempt.declared.inserting.Stage.{Stage as InsertStage}
-use Rattle.art_call.specs.ArtAttempt.declared.inserting.Stage.TheVariants as insert
+use Rattle.art_call.specs.ArtAttempt.declared.attempts.Attempt.{Attempt}
+use Rattle.art_call.specs.ArtAttempt.declared.attempts.Stage.{Stage as AttemptStage}
+use Rattle.art_call.specs.ArtAttempt.declared.attempts.Stage.TheVariants as attempt
 use Rattle.art_call.specs.ArtAttempt.declared.rooms.Room.{Room}
 use Rattle.art_cell.specs.declared.cells.Cell.{Cell as CellOf}
 use Rattle.art_cell.specs.declared.cells.Cell.TheVariants as cell
 use Rattle.art_cell.specs.declared.cells.Node.{Node}
-use Rattle.art_call.proofs.ArtErase.Free as erase_free
-use Rattle.art_call.specs.ArtErase.Erasing as erases
-use Rattle.art_call.specs.ArtErase.declared.erasing.Erasing.{Erasing as Erasure}
-use Rattle.art_call.specs.ArtErase.declared.erasing.Stage.{Stage as EraseStage}
-use Rattle.art_call.specs.ArtErase.declared.erasing.Stage.TheVariants as erase
 use Rattle.art_call.proofs.ArtMake.Told.{map_some}
 use Rattle.art_call.specs.ArtMake.Apply as apply
 use Rattle.art_call.specs.ArtMake.Apply.{Fails, IsCommitted, put_into, releases}
@@ -226,42 +220,24 @@ module _ (z : Sizes) (b v : View) (r : Room) (a : Action) (left : ℕ) where
       let later = base.later.failures in
       release_late z r.change early v a left n fits is up (own ∙ sym (ap (λ (o : Rest). o.own) base.rest)) (omega (arith, few, later)) many
 
-  -- ---- of an insert
+  -- ---- of an attempt
 
-  pub insert_look : (i : Insertion) → length r.row.key.items ≤ 64 → (s : InsertStage) → inserts.StageFits z b s i r v → (free_at s i.apply ≡ true → 0 < left) → inserts.asks_at s i r ≡ Some a → NeedsCurrent a
-      → IsEarlyBy (inserts.left_at left s i.apply)
-  insert_look i short insert.Finding fits some is look = (ap (λ (o : Rest). o.own) (free_so z b i r v short insert.Finding refl refl fits).still.rest, many_tries left (some refl))
-  insert_look i short insert.Reserve fits some is look = absurd (no_look_supply a (supply_asks_supply r.row.key.items r.row.value r.stock i.reserve a is) look)
-  insert_look i short insert.Vouching fits some is look = (ap (λ (o : Rest). o.own) (free_so z b i r v short insert.Vouching refl refl fits).still.rest, many_tries left (some refl))
-  insert_look i short insert.Apply fits some is look = look_change fits.0.early i.apply fits.0.base fits.0.fits some is look
-  insert_look i short (insert.Ended e) fits some is look = absurd (cc)
+  pub attempt_look : (i : Attempt) → length r.row.key.items ≤ 64 → (s : AttemptStage) → attempts.StageFits z b s i r v → (free_at s i.apply ≡ true → 0 < left) → attempts.asks_at s i r ≡ Some a → NeedsCurrent a
+      → IsEarlyBy (attempts.left_at left s i.apply)
+  attempt_look i short attempt.Finding fits some is look = (ap (λ (o : Rest). o.own) (free_so z b i r v short attempt.Finding refl refl fits).still.rest, many_tries left (some refl))
+  attempt_look i short attempt.Reserve fits some is look = absurd (no_look_supply a (supply_asks_supply r.row.key.items r.row.value r.stock i.reserve a is) look)
+  attempt_look i short (attempt.Reading q) fits some is look = (ap (λ (o : Rest). o.own) (free_so z b i r v short (attempt.Reading q) refl refl fits).still.rest, many_tries left (some refl))
+  attempt_look i short attempt.Vouching fits some is look = (ap (λ (o : Rest). o.own) (free_so z b i r v short attempt.Vouching refl refl fits).still.rest, many_tries left (some refl))
+  attempt_look i short attempt.Lowering fits some is look = (ap (λ (o : Rest). o.own) (free_so z b i r v short attempt.Lowering refl refl fits).still.rest, many_tries left (some refl))
+  attempt_look i short attempt.Apply fits some is look = look_change fits.0.early i.apply fits.0.base fits.0.fits some is look
+  attempt_look i short (attempt.Ended e) fits some is look = absurd (cc)
 
-  pub insert_release : (i : Insertion) (s : InsertStage) → inserts.StageFits z b s i r v → inserts.asks_at s i r ≡ Some a → IsRelease a → v.own ≡ b.own → v.failures ≤ b.failures
-      → 575 < inserts.left_at left s i.apply → ⊥
-  insert_release i insert.Finding fits is up own few many = no_release_look a (ask_looks z (inserts.deed_at i r) v a (insert_finds.finding_allowed z b i r v fits a is)) up
-  insert_release i insert.Reserve fits is up own few many = no_release_supply a (supply_asks_supply r.row.key.items r.row.value r.stock i.reserve a is) up
-  insert_release i insert.Vouching fits is up own few many = no_release_look a (vouch_asks_look i.position i.vouching a is) up
-  insert_release i insert.Apply fits is up own few many = release_change fits.0.early i.apply fits.0.base fits.0.fits is up own few many
-  insert_release i (insert.Ended e) fits is up own few many = absurd (cc)
-
-  -- ---- of a removal
-
-  pub erase_look : (i : Erasure) → length r.gone.key.items ≤ 64 → (s : EraseStage) → erases.StageFits z b s i r v → (erases.free_at s i.apply ≡ true → 0 < left) → erases.asks_at s i r ≡ Some a → NeedsCurrent a
-      → IsEarlyBy (erases.left_at left s i.apply)
-  erase_look i short erase.Finding fits some is look = (ap (λ (o : Rest). o.own) (erase_free.free_so z b i r v short erase.Finding refl refl fits).still.rest, many_tries left (some refl))
-  erase_look i short (erase.Reserve layout) fits some is look = absurd (no_look_supply a (supply_asks_supply r.gone.key.items 0 r.stock i.reserve a is) look)
-  erase_look i short (erase.Reading q) fits some is look = (ap (λ (o : Rest). o.own) (erase_free.free_so z b i r v short (erase.Reading q) refl refl fits).still.rest, many_tries left (some refl))
-  erase_look i short erase.Vouching fits some is look = (ap (λ (o : Rest). o.own) (erase_free.free_so z b i r v short erase.Vouching refl refl fits).still.rest, many_tries left (some refl))
-  erase_look i short erase.Lowering fits some is look = (ap (λ (o : Rest). o.own) (erase_free.free_so z b i r v short erase.Lowering refl refl fits).still.rest, many_tries left (some refl))
-  erase_look i short erase.Apply fits some is look = look_change fits.0.early i.apply fits.0.base fits.0.fits some is look
-  erase_look i short (erase.Ended e) fits some is look = absurd (cc)
-
-  pub erase_release : (i : Erasure) (s : EraseStage) → erases.StageFits z b s i r v → erases.asks_at s i r ≡ Some a → IsRelease a → v.own ≡ b.own → v.failures ≤ b.failures
-      → 575 < erases.left_at left s i.apply → ⊥
-  erase_release i erase.Finding fits is up own few many = no_release_look a (ask_looks z (erases.absent r.gone) v a (erase_finds.finding_allowed z b i r v fits a is)) up
-  erase_release i (erase.Reserve layout) fits is up own few many = no_release_supply a (supply_asks_supply r.gone.key.items 0 r.stock i.reserve a is) up
-  erase_release i (erase.Reading q) fits is up own few many = no_release_look a (reads_look i.position.stamp q a is) up
-  erase_release i erase.Vouching fits is up own few many = no_release_look a (vouch_asks_look i.position i.vouching a is) up
-  erase_release i erase.Lowering fits is up own few many = no_release_look a (lower_asks_look i.position i.lowering a is) up
-  erase_release i erase.Apply fits is up own few many = release_change fits.0.early i.apply fits.0.base fits.0.fits is up own few many
-  erase_release i (erase.Ended e) fits is up own few many = absurd (cc)
+  pub attempt_release : (i : Attempt) (s : AttemptStage) → attempts.StageFits z b s i r v → attempts.asks_at s i r ≡ Some a → IsRelease a → v.own ≡ b.own → v.failures ≤ b.failures
+      → 575 < attempts.left_at left s i.apply → ⊥
+  attempt_release i attempt.Finding fits is up own few many = no_release_look a (ask_looks z (attempts.deed_at i r) v a (finding_allowed z b i r v fits a is)) up
+  attempt_release i attempt.Reserve fits is up own few many = no_release_supply a (supply_asks_supply r.row.key.items r.row.value r.stock i.reserve a is) up
+  attempt_release i (attempt.Reading q) fits is up own few many = no_release_look a (reads_look i.position.stamp q a is) up
+  attempt_release i attempt.Vouching fits is up own few many = no_release_look a (vouch_asks_look i.position i.vouching a is) up
+  attempt_release i attempt.Lowering fits is up own few many = no_release_look a (lower_asks_look i.position i.lowering a is) up
+  attempt_release i attempt.Apply fits is up own few many = release_change fits.0.early i.apply fits.0.base fits.0.fits is up own few many
+  attempt_release i (attempt.Ended e) fits is up own few many = absurd (cc)

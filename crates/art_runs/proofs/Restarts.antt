@@ -2,25 +2,19 @@
 use Rattle.std.proofs.Common.{◌≡◌, ◌+◌, ◌≤◌, ℕ, List, None, refl, ap, ◌∙◌, arith}
 use Rattle.std.proofs.lemmas.Bool.{cond_both}
 use Rattle.std.specs.Prelude.{◌==◌}
-use Rattle.art_call.specs.ArtAttempt.Inserting as inserts
-use Rattle.art_call.specs.ArtAttempt.declared.inserting.Inserting.{Inserting as Insertion}
-use Rattle.art_call.specs.ArtAttempt.declared.inserting.Stage.{Stage as InsertStage}
-use Rattle.art_call.specs.ArtAttempt.declared.inserting.Stage.TheVariants as insert
+use Rattle.art_call.specs.ArtAttempt.Attempts as attempts
+use Rattle.art_call.specs.ArtAttempt.declared.attempts.Attempt.{Attempt}
+use Rattle.art_call.specs.ArtAttempt.declared.attempts.Stage.{Stage as AttemptStage}
+use Rattle.art_call.specs.ArtAttempt.declared.attempts.Stage.TheVariants as attempt
 use Rattle.art_call.specs.ArtAttempt.declared.rooms.Room.{Room}
 use Rattle.art_call.specs.Calls.{GoesOn, Wish, restarts_of}
 use Rattle.art_call.specs.declared.callers.Call.{Call}
 use Rattle.art_call.specs.declared.callers.Call.TheVariants as call
 use Rattle.art_call.specs.declared.callers.Caller.{Caller}
 use Rattle.art_call.proofs.ArtChange.Counted.{write_counted}
-use Rattle.art_call.proofs.ArtChange.EitherKind.{left_by, map_none}
-use Rattle.art_call.specs.ArtChange.Tries as tries
-use Rattle.art_call.specs.ArtChange.Tries.{key_of, value_of}
+use Rattle.art_call.proofs.ArtChange.Endings.{left_by}
 use Rattle.art_call.specs.ArtChange.Writes as writes
 use Rattle.art_call.specs.ArtChange.Writes.{IsClosing, gone_by}
-use Rattle.art_call.specs.ArtChange.declared.tries.Job.{Job}
-use Rattle.art_call.specs.ArtChange.declared.tries.Job.TheVariants.{Insert, Remove}
-use Rattle.art_call.specs.ArtChange.declared.tries.Trying.{Trying}
-use Rattle.art_call.specs.ArtChange.declared.tries.Trying.TheVariants.{Inserting, Erasing}
 use Rattle.art_call.specs.ArtChange.declared.writes.Stage.{Stage}
 use Rattle.art_call.specs.ArtChange.declared.writes.Stage.TheVariants as stage
 use Rattle.art_call.specs.ArtChange.declared.writes.Write.{Write}
@@ -28,10 +22,6 @@ use Rattle.art_step.specs.Tokens.{links_of}
 use Rattle.art_cell.specs.declared.cells.Link.{Link}
 use Rattle.art_epoch.specs.Limbo.{places_of}
 use Rattle.art_epoch.specs.declared.limbo.Place.{Place}
-use Rattle.art_call.specs.ArtErase.Erasing as erases
-use Rattle.art_call.specs.ArtErase.declared.erasing.Erasing.{Erasing as Erasure}
-use Rattle.art_call.specs.ArtErase.declared.erasing.Stage.{Stage as EraseStage}
-use Rattle.art_call.specs.ArtErase.declared.erasing.Stage.TheVariants as erase
 use Rattle.art_call.specs.ArtFrame.Closings.{ClosingFits}
 use Rattle.art_call.specs.ArtFrame.declared.closings.Closing.{Closing}
 use Rattle.art_call.specs.ArtFrame.declared.closings.Closing.TheVariants.{Labelling, Giving, Ended}
@@ -55,27 +45,14 @@ use Rattle.art_step.specs.declared.views.View.{View}
 -- ---- attempts take no failure back
 
 module _ (z : Sizes) (b : View) (r : Room) (v : View) where
-  insert_later : (i : Insertion) (s : InsertStage) → inserts.StageFits z b s i r v → inserts.entered_at s ≡ None → b.failures ≤ v.failures
-  insert_later i insert.Finding fits going = let first = fits.base.later.failures in let more = fits.later.failures in omega (arith, first, more)
-  insert_later i insert.Reserve fits going = let first = fits.0.base.later.failures in let more = fits.0.fits.only.failures in omega (arith, first, more)
-  insert_later i insert.Vouching fits going = let first = fits.0.base.later.failures in let more = fits.0.later.failures in omega (arith, first, more)
-  insert_later i insert.Apply fits going = let first = fits.0.base.later.failures in let more = fits.0.later.failures in omega (arith, first, more)
-  insert_later i (insert.Ended e) fits going = absurd (cc)
-
-  erase_later : (i : Erasure) (s : EraseStage) → erases.StageFits z b s i r v → erases.erased_at s ≡ None → b.failures ≤ v.failures
-  erase_later i erase.Finding fits going = let first = fits.base.later.failures in let more = fits.later.failures in omega (arith, first, more)
-  erase_later i (erase.Reserve layout) fits going = let first = fits.0.base.later.failures in let more = fits.0.fits.only.failures in omega (arith, first, more)
-  erase_later i (erase.Reading q) fits going = let first = fits.0.base.later.failures in let more = fits.0.later.failures in omega (arith, first, more)
-  erase_later i erase.Vouching fits going = let first = fits.0.base.later.failures in let more = fits.0.later.failures in omega (arith, first, more)
-  erase_later i erase.Lowering fits going = let first = fits.0.base.later.failures in let more = fits.0.later.failures in omega (arith, first, more)
-  erase_later i erase.Apply fits going = let first = fits.0.base.later.failures in let more = fits.0.later.failures in omega (arith, first, more)
-  erase_later i (erase.Ended e) fits going = absurd (cc)
-
-  try_later : (j : Job) (t : Trying) → tries.Fits z b j t r v → tries.ended_at t ≡ None → b.failures ≤ v.failures
-  try_later Insert (Inserting i) fits going = insert_later i i.stage fits.stage (map_none tries.of_entered (inserts.ended_at i) going)
-  try_later Remove (Erasing i) fits going = erase_later i i.stage fits.stage (map_none tries.of_erased (erases.ended_at i) going)
-  try_later Insert (Erasing i) fits going = absurd fits
-  try_later Remove (Inserting i) fits going = absurd fits
+  attempt_later : (i : Attempt) (s : AttemptStage) → attempts.StageFits z b s i r v → attempts.ending_at s ≡ None → b.failures ≤ v.failures
+  attempt_later i attempt.Finding fits going = let first = fits.base.later.failures in let more = fits.later.failures in omega (arith, first, more)
+  attempt_later i attempt.Reserve fits going = let first = fits.0.base.later.failures in let more = fits.0.fits.only.failures in omega (arith, first, more)
+  attempt_later i (attempt.Reading q) fits going = let first = fits.0.base.later.failures in let more = fits.0.later.failures in omega (arith, first, more)
+  attempt_later i attempt.Vouching fits going = let first = fits.0.base.later.failures in let more = fits.0.later.failures in omega (arith, first, more)
+  attempt_later i attempt.Lowering fits going = let first = fits.0.base.later.failures in let more = fits.0.later.failures in omega (arith, first, more)
+  attempt_later i attempt.Apply fits going = let first = fits.0.base.later.failures in let more = fits.0.later.failures in omega (arith, first, more)
+  attempt_later i (attempt.Ended e) fits going = absurd (cc)
 
 -- ---- a write
 
@@ -89,9 +66,9 @@ module _ (z : Sizes) (u : View) (ps : List Place) (n : Write) (r : Room) (qs : L
   closing_failed : IsClosing z u ps n r qs v → u.failures + n.restarts ≤ v.failures
   closing_failed k =
       let failed = k.begun.failed in
-      let more = (left_by z k.began (record r { stock = k.stock }) k.ended n.job n.trying n.outcome n.left k.outcome).later.failures in
+      let more = (left_by z k.began (record r { stock = k.stock }) k.ended n.job n.attempt n.outcome n.left k.outcome).later.failures in
       let first = ap (λ (x : View). x.failures) k.frame.frame.is in
-      let last = closing_same z (key_of n.job r).items (value_of n.job r) k.ended v k.waiting qs (links_of (gone_by n.outcome r.change)) r.stock n.closing k.fits in
+      let last = closing_same z r.row.key.items r.row.value k.ended v k.waiting qs (links_of (gone_by n.outcome r.change)) r.stock n.closing k.fits in
       omega (arith, failed, more, first, last)
 
   write_failed : (s : Stage) → writes.StageFits z u ps s n r qs v → v.failures ≡ u.failures → n.restarts ≡ 0
@@ -99,7 +76,7 @@ module _ (z : Sizes) (u : View) (ps : List Place) (n : Write) (r : Room) (qs : L
   write_failed stage.Trying fits none =
       let t = fits.0 in
       let failed = t.begun.failed in
-      let more = try_later z t.began r v n.job n.trying t.fits t.going in
+      let more = attempt_later z t.began r v n.attempt n.attempt.stage t.fits.stage t.going in
       let first = ap (λ (x : View). x.failures) t.frame.frame.is in
       omega (arith, failed, more, first, none)
   write_failed stage.Closing fits none = let failed = closing_failed fits.0 in omega (arith, failed, none)

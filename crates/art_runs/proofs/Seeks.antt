@@ -4,7 +4,6 @@ use Rattle.std.proofs.lemmas.Bool.{cond_both}
 use Rattle.std.proofs.lemmas.Option.{same_Some}
 use Rattle.std.specs.Prelude.{◌==◌}
 use Rattle.art_call.specs.AsAsked.{SeekMakes}
-use Rattle.art_call.proofs.ArtChange.EitherKind.{map_none}
 use Rattle.art_epoch.specs.Pins.{Pins}
 use Rattle.art_call.proofs.ArtFind.Stages.{still_reading}
 use Rattle.art_call.specs.ArtFind.Descents as descents
@@ -31,6 +30,7 @@ use Rattle.art_machine.specs.declared.actions.Action.TheVariants.{StorePin}
 use Rattle.art_machine.specs.declared.actions.Answer.{Answer}
 use Rattle.art_runs.proofs.Calm.{IsCellFounded, IsMoment, calm_current, cell_calm, frame_calm}
 use Rattle.art_runs.proofs.Cells.{descent_founded, look_founded}
+use Rattle.art_runs.proofs.Told.{no_end}
 use Rattle.art_runs.proofs.Versions.{own_grows}
 use Rattle.art_runs.specs.OthersIdle.{AreCurrent, HasFound}
 use Rattle.art_step.specs.Shows.{Rest}
@@ -54,7 +54,7 @@ look_going true is = cc
 look_going false is = refl
 
 walk_reads : (z : Sizes) (k : List ℕ) (hi : Bound) (u : View) (t : PathBuffer) (restarts : ℕ) (v : View) (n : Walk) → walks.Fits z k hi u n t restarts v → walks.ended_at n ≡ None → IsReading u v
-walk_reads z k hi u t restarts v (Key n) fits going = still_reading z k (get_done k) n.depth n.stage u v (map_none of_value (descents.ended_at n.stage) going) fits.fits
+walk_reads z k hi u t restarts v (Key n) fits going = still_reading z k (get_done k) n.depth n.stage u v (no_end of_value (descents.ended_at n.stage) going) fits.fits
 walk_reads z k hi u t restarts v (Range n) fits going = look_stages.still_reading z k hi n.depth t n.stage u v (look_going (looks.has_ended n.stage) going) fits.fits
 
 walk_founded : (z : Sizes) (k : List ℕ) (hi : Bound) (u : View) (t : PathBuffer) (restarts : ℕ) (v : View) (n : Walk) → v.held ≡ [] → walks.Fits z k hi u n t restarts v → IfSome (walks.asks n) (IsCellFounded z v)

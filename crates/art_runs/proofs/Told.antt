@@ -3,12 +3,13 @@ use Rattle.std.proofs.Common.{◌≡◌, ◌⊎◌, ℕ, ◌+◌, ◌<◌, ◌�
 use Rattle.std.proofs.lemmas.Bool.{ne_eqb}
 use Rattle.std.specs.Option.{option_map}
 use Rattle.arrayvec.specs.ArrayVec.{ArrayVec}
-use Rattle.art_call.proofs.ArtAttempt.Free.{free_so as insert_free}
-use Rattle.art_call.specs.ArtAttempt.Inserting as inserts
+use Rattle.art_call.proofs.ArtAttempt.Free.{free_so}
+use Rattle.art_call.specs.ArtAttempt.Attempts as attempts
+use Rattle.art_call.specs.ArtAttempt.Cases.{made_by}
 use Rattle.art_call.specs.ArtAttempt.Trying.{StillTries}
-use Rattle.art_call.specs.ArtAttempt.declared.inserting.Inserting.{Inserting as Insertion}
-use Rattle.art_call.specs.ArtAttempt.declared.inserting.Stage.{Stage as InsertStage}
-use Rattle.art_call.specs.ArtAttempt.declared.inserting.Stage.TheVariants as insert
+use Rattle.art_call.specs.ArtAttempt.declared.attempts.Attempt.{Attempt}
+use Rattle.art_call.specs.ArtAttempt.declared.attempts.Stage.{Stage as AttemptStage}
+use Rattle.art_call.specs.ArtAttempt.declared.attempts.Stage.TheVariants as attempt
 use Rattle.art_call.specs.ArtAttempt.declared.rooms.Room.{Room}
 use Rattle.art_call.specs.Calls.{GoesOn, Get, Insert, IsCalling, IsWriting, Look, Remove, Wish, told_by}
 use Rattle.art_call.specs.Outcomes.{of_write}
@@ -18,13 +19,10 @@ use Rattle.art_call.specs.declared.callers.Caller.{Caller}
 use Rattle.art_call.specs.declared.outcomes.Outcome.{Outcome}
 use Rattle.art_call.specs.declared.outcomes.Outcome.TheVariants as outcome
 use Rattle.art_call.proofs.ArtChange.Answered.{answered, left_opened, sees_all}
-use Rattle.art_call.specs.ArtChange.Tries.{Fits as TryFits, ended_at as try_ended, key_of, of_entered, of_erased, value_of}
 use Rattle.art_call.specs.ArtChange.Writes as writes
 use Rattle.art_call.specs.ArtChange.Writes.{IsClosing, IsTrying, StageFits, gone_by}
-use Rattle.art_call.specs.ArtChange.declared.tries.Job.{Job}
-use Rattle.art_call.specs.ArtChange.declared.tries.Job.TheVariants as job
-use Rattle.art_call.specs.ArtChange.declared.tries.Trying.{Trying}
-use Rattle.art_call.specs.ArtChange.declared.tries.Trying.TheVariants.{Inserting, Erasing}
+use Rattle.art_call.specs.ArtAttempt.declared.attempts.Job.{Job}
+use Rattle.art_call.specs.ArtAttempt.declared.attempts.Job.TheVariants as job
 use Rattle.art_call.specs.ArtChange.declared.writes.Outcome.{Outcome as WriteOutcome}
 use Rattle.art_call.specs.ArtChange.declared.writes.Outcome.TheVariants as write
 use Rattle.art_call.specs.ArtChange.declared.writes.Stage.{Stage}
@@ -34,11 +32,6 @@ use Rattle.art_epoch.proofs.Pinned.{pinning_same}
 use Rattle.art_epoch.specs.Limbo.{places_of}
 use Rattle.art_epoch.specs.Pins.{Pins}
 use Rattle.art_epoch.specs.declared.limbo.Place.{Place}
-use Rattle.art_call.proofs.ArtErase.Free.{free_so as erase_free}
-use Rattle.art_call.specs.ArtErase.Erasing as erases
-use Rattle.art_call.specs.ArtErase.declared.erasing.Erasing.{Erasing as Erasure}
-use Rattle.art_call.specs.ArtErase.declared.erasing.Stage.{Stage as EraseStage}
-use Rattle.art_call.specs.ArtErase.declared.erasing.Stage.TheVariants as erase
 use Rattle.art_call.proofs.ArtFind.Stages.{still_reading}
 use Rattle.art_call.specs.ArtFind.Descents as descents
 use Rattle.art_call.specs.ArtFind.Driven.{get_done}
@@ -47,7 +40,6 @@ use Rattle.art_call.specs.ArtFrame.Closings.{ClosingFits}
 use Rattle.art_call.specs.ArtFrame.declared.closings.Closing.{Closing}
 use Rattle.art_call.specs.ArtFrame.declared.closings.Closing.TheVariants as closing
 use Rattle.art_call.specs.ArtFrame.declared.stocks.Stock.{Stock}
-use Rattle.art_call.specs.ArtPlan.Insert.Puts.{inserted}
 use Rattle.art_key.specs.declared.bounds.Bound.{Bound}
 use Rattle.art_call.proofs.ArtLook.Stages.{still_reading as still_looking}
 use Rattle.art_call.specs.ArtLook.Looks as looks
@@ -58,7 +50,6 @@ use Rattle.art_call.specs.ArtMake.Apply.{Fits as MakeFits, ended_at as make_ende
 use Rattle.art_call.specs.ArtMake.declared.apply.Apply.{Apply}
 use Rattle.art_call.specs.ArtMake.declared.apply.Apply.TheVariants.{Upgrading, Claiming, Filling, Writing, Committing, Releasing, ReleasingNode, GivingUp, Ended}
 use Rattle.art_call.specs.ArtPlan.declared.changes.Change.{Change}
-use Rattle.art_call.specs.ArtPlan.Remove.Removals.{removed}
 use Rattle.art_call.proofs.ArtSeek.Closes.{closed_sought, over_told}
 use Rattle.art_call.proofs.ArtSeek.Ends.{key_not_seen, range_not_absent, range_not_found}
 use Rattle.art_call.specs.ArtSeek.Seeks as seeks
@@ -123,25 +114,15 @@ module _ (z : Sizes) (u : View) (r : Room) (v : View) where
   made_since early what deed is base (inl none) = inl (since_tries u early v None base none)
   made_since early what deed is base (inr made) = inr (subst (MakesEvent u v) is (since_tries u early v (Some deed) base made))
 
-  insert_made : (m : Insertion) (s : InsertStage) → length r.row.key.items ≤ 64 → inserts.StageFits z u s m r v → inserts.entered_at s ≡ None → MadeSo u v (inserted r.row)
-  insert_made m insert.Finding short fits on = inl (still_none (insert_free z u m r v short insert.Finding refl refl fits).still)
-  insert_made m insert.Reserve short fits on = inl (still_none (insert_free z u m r v short insert.Reserve refl refl fits).still)
-  insert_made m insert.Vouching short fits on = inl (still_none (insert_free z u m r v short insert.Vouching refl refl fits).still)
-  insert_made m insert.Apply short fits on = made_since fits.0.early (inserted r.row) r.change.effects.deed fits.0.deed fits.0.base (apply_made z r.change fits.0.early v m.apply fits.0.fits fits.1)
-  insert_made m (insert.Ended e) short fits on = cc
-
-  erase_made : (m : Erasure) (s : EraseStage) → length r.gone.key.items ≤ 64 → erases.StageFits z u s m r v → erases.erased_at s ≡ None → MadeSo u v (removed r.gone)
-  erase_made m erase.Finding short fits on = inl (still_none (erase_free z u m r v short erase.Finding refl refl fits).still)
-  erase_made m (erase.Reserve layout) short fits on = inl (still_none (erase_free z u m r v short (erase.Reserve layout) refl refl fits).still)
-  erase_made m (erase.Reading q) short fits on = inl (still_none (erase_free z u m r v short (erase.Reading q) refl refl fits).still)
-  erase_made m erase.Vouching short fits on = inl (still_none (erase_free z u m r v short erase.Vouching refl refl fits).still)
-  erase_made m erase.Lowering short fits on = inl (still_none (erase_free z u m r v short erase.Lowering refl refl fits).still)
-  erase_made m erase.Apply short fits on = made_since fits.0.early (removed r.gone) r.change.effects.deed fits.0.deed fits.0.base (apply_made z r.change fits.0.early v m.apply fits.0.fits fits.1)
-  erase_made m (erase.Ended e) short fits on = cc
-
-no_end : {A B : Type 0} (f : A → B) (o : Option A) → option_map f o ≡ None → o ≡ None
-no_end f None is = refl
-no_end f (Some x) is = cc
+  -- of an attempt
+  attempt_made : (m : Attempt) (s : AttemptStage) → length r.row.key.items ≤ 64 → attempts.StageFits z u s m r v → attempts.ending_at s ≡ None → MadeSo u v (made_by m.job r.row r.gone)
+  attempt_made m attempt.Finding short fits on = inl (still_none (free_so z u m r v short attempt.Finding refl refl fits).still)
+  attempt_made m attempt.Reserve short fits on = inl (still_none (free_so z u m r v short attempt.Reserve refl refl fits).still)
+  attempt_made m (attempt.Reading q) short fits on = inl (still_none (free_so z u m r v short (attempt.Reading q) refl refl fits).still)
+  attempt_made m attempt.Vouching short fits on = inl (still_none (free_so z u m r v short attempt.Vouching refl refl fits).still)
+  attempt_made m attempt.Lowering short fits on = inl (still_none (free_so z u m r v short attempt.Lowering refl refl fits).still)
+  attempt_made m attempt.Apply short fits on = made_since fits.0.early (made_by m.job r.row r.gone) r.change.effects.deed fits.0.deed fits.0.base (apply_made z r.change fits.0.early v m.apply fits.0.fits fits.1)
+  attempt_made m (attempt.Ended e) short fits on = cc
 
 -- ---- a write
 
@@ -150,19 +131,14 @@ abbrev SeesSome : Job → ArrayVec ℕ → ℕ → View → View → Type 0
 SeesSome j k value u v = (o : WriteOutcome) × SeesEvent u v (writes.told_by o j k value)
 
 module _ (z : Sizes) (u : View) (r : Room) (v : View) where
-  inserts_some : MadeSo u v (inserted r.row) → SeesSome job.Insert (key_of job.Insert r) (value_of job.Insert r) u v
-  inserts_some (inl none) = (write.Busy, none)
-  inserts_some (inr made) = (write.New, made)
+  job_some : (j : Job) → MadeSo u v (made_by j r.row r.gone) → SeesSome j r.row.key r.row.value u v
+  job_some job.Insert (inl none) = (write.Busy, none)
+  job_some job.Insert (inr made) = (write.New, made)
+  job_some job.Remove (inl none) = (write.Busy, none)
+  job_some job.Remove (inr made) = (write.Gone r.gone.value, made)
 
-  erases_some : MadeSo u v (removed r.gone) → SeesSome job.Remove (key_of job.Remove r) (value_of job.Remove r) u v
-  erases_some (inl none) = (write.Busy, none)
-  erases_some (inr made) = (write.Gone r.gone.value, made)
-
-  tries_some : (j : Job) (t : Trying) → length (key_of j r).items ≤ 64 → TryFits z u j t r v → try_ended t ≡ None → SeesSome j (key_of j r) (value_of j r) u v
-  tries_some job.Insert (Inserting m) short fits on = inserts_some (insert_made z u r v m m.stage short fits.stage (no_end of_entered (inserts.ended_at m) on))
-  tries_some job.Remove (Erasing m) short fits on = erases_some (erase_made z u r v m m.stage short fits.stage (no_end of_erased (erases.ended_at m) on))
-  tries_some job.Insert (Erasing m) short fits on = absurd fits
-  tries_some job.Remove (Inserting m) short fits on = absurd fits
+  tries_some : (j : Job) (t : Attempt) → t.job ≡ j → length r.row.key.items ≤ 64 → attempts.Fits z u t r v → attempts.ended_at t ≡ None → SeesSome j r.row.key r.row.value u v
+  tries_some j t is short fits on = job_some j (subst (λ (k : Job). MadeSo u v (made_by k r.row r.gone)) is (attempt_made z u r v t t.stage short fits.stage on))
 
 module _ (z : Sizes) (k : List ℕ) (value : ℕ) (u v : View) (ps qs : List Place) (us : List Link) (s : Stock) where
   close_tells : (c : Closing) → ClosingFits z k value u ps us c qs s v → (v.seen ≡ u.seen) × (v.own ≡ u.own)
@@ -173,12 +149,12 @@ module _ (z : Sizes) (k : List ℕ) (value : ℕ) (u v : View) (ps qs : List Pla
 module _ (z : Sizes) (u : View) (ps : List Place) (m : Write) (r : Room) (qs : List Place) (v : View) where
   -- since the view u
   abbrev Tells : Type 0
-  Tells = (v.own ≡ u.own) ⊎ SeesSome m.job (key_of m.job r) (value_of m.job r) u v
+  Tells = (v.own ≡ u.own) ⊎ SeesSome m.job r.row.key r.row.value u v
 
-  trying_tells : length (key_of m.job r).items ≤ 64 → IsTrying z u ps m r qs v → Tells
+  trying_tells : length r.row.key.items ≤ 64 → IsTrying z u ps m r qs v → Tells
   trying_tells short k =
-      let some = tries_some z k.began r v m.job m.trying short k.fits k.going in
-      let what = writes.told_by some.0 m.job (key_of m.job r) (value_of m.job r) in
+      let some = tries_some z k.began r v m.job m.attempt k.job short k.fits k.going in
+      let what = writes.told_by some.0 m.job r.row.key r.row.value in
       let opened = k.frame.frame.is in
       inr (
         some.0,
@@ -188,15 +164,15 @@ module _ (z : Sizes) (u : View) (ps : List Place) (m : Write) (r : Room) (qs : L
 
   closing_tells : IsClosing z u ps m r qs v → Tells
   closing_tells k =
-      let same = close_tells z (key_of m.job r).items (value_of m.job r) k.ended v k.waiting qs (links_of (gone_by m.outcome r.change)) r.stock m.closing k.fits in
+      let same = close_tells z r.row.key.items r.row.value k.ended v k.waiting qs (links_of (gone_by m.outcome r.change)) r.stock m.closing k.fits in
       let opened = k.frame.frame.is in
       inr (
         m.outcome,
         sees_all u k.opened k.ended v (ap (λ (t : View). t.seen) opened) (ap (λ (t : View). t.own) opened) (ap (λ (t : View). t.pass) opened) same.0 same.1
-            (writes.told_by m.outcome m.job (key_of m.job r) (value_of m.job r)) (left_opened z u ps m r qs v k).tells,
+            (writes.told_by m.outcome m.job r.row.key r.row.value) (left_opened z u ps m r qs v k).tells,
       )
 
-  write_tells : (s : Stage) → length (key_of m.job r).items ≤ 64 → StageFits z u ps s m r qs v → Tells
+  write_tells : (s : Stage) → length r.row.key.items ≤ 64 → StageFits z u ps s m r qs v → Tells
   write_tells stages.Opening short fits = inl (opening_same z u v ps qs m.opening fits.opening fits.going).1
   write_tells stages.Trying short fits = trying_tells short fits.0
   write_tells stages.Closing short fits = closing_tells fits.0
@@ -230,9 +206,9 @@ module _ (z : Sizes) (turns : ℕ) (u : View) (c : Caller) (m : Write) (v : View
 
   writing_tells : (j : Job) (k : ArrayVec ℕ) (value : ℕ) → IsWriting z j k value turns u c m v → TellsOf j k value
   writing_tells j k value on =
-      let own : TellsOf m.job (key_of m.job c.room) (value_of m.job c.room) = write_tells z u on.waited m c.room (places_of c.limbo) v m.stage on.fits.room.key.short on.fits.stage in
-      let by_job : TellsOf j (key_of j c.room) (value_of j c.room) = subst (λ (i : Job). TellsOf i (key_of i c.room) (value_of i c.room)) on.job_is own in
-      let by_key : TellsOf j k (value_of j c.room) = subst (λ (x : ArrayVec ℕ). TellsOf j x (value_of j c.room)) on.key_is by_job in
+      let own : TellsOf m.job c.room.row.key c.room.row.value = write_tells z u on.waited m c.room (places_of c.limbo) v m.stage on.fits.room.key.short on.fits.stage in
+      let by_job : TellsOf j c.room.row.key c.room.row.value = subst (λ (i : Job). TellsOf i c.room.row.key c.room.row.value) on.job_is own in
+      let by_key : TellsOf j k c.room.row.value = subst (λ (x : ArrayVec ℕ). TellsOf j x c.room.row.value) on.key_is by_job in
       subst (λ (n : ℕ). TellsOf j k n) on.value_is by_key
 
   insert_told : (k : ArrayVec ℕ) (value : ℕ) → TellsOf job.Insert k value → HasTold (Insert k value) u v
@@ -257,6 +233,11 @@ module _ (z : Sizes) (u o : View) (p : Pins z u o) where
 
   pinned_pass : o.pass ≡ u.pass
   pinned_pass = ap (λ (v : View). v.pass) p.is ∙ ap (λ (v : View). v.pass) (pinned_view (epoch.view_after u p.found) p.found p.some)
+
+-- where nothing came of a part, there is none
+pub no_end : {A B : Type 0} (f : A → B) (o : Option A) → option_map f o ≡ None → o ≡ None
+no_end f None is = refl
+no_end f (Some x) is = cc
 
 seen_going : (b : Bool) → (if b then Some Seen else None) ≡ None → b ≡ false
 seen_going true is = cc

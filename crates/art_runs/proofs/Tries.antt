@@ -3,30 +3,23 @@ use Rattle.std.proofs.Common.{◌≡◌, ◌<◌, ◌≤◌, ℕ, Bool, true, fa
 use Rattle.std.proofs.lemmas.Option.{same_Some}
 use Rattle.std.specs.Option.{option_and_then, option_map}
 use Rattle.art_call.proofs.ArtAttempt.Free.{free_so}
-use Rattle.art_call.proofs.ArtAttempt.Finds as insert_finds
+use Rattle.art_call.proofs.ArtAttempt.Finds.{finding_allowed}
 use Rattle.art_call.proofs.ArtAttempt.Given.{ask_looks}
 use Rattle.art_call.proofs.ArtAttempt.ArtGather.Asked.{lower_asks_look, reads_look, vouch_asks_look}
-use Rattle.art_call.proofs.ArtErase.Finds as erase_finds
 use Rattle.art_call.specs.ArtAttempt.Asking.{IsAllowed}
-use Rattle.art_call.specs.ArtAttempt.Inserting as inserts
-use Rattle.art_call.specs.ArtAttempt.Rooms.{demand_of}
+use Rattle.art_call.specs.ArtAttempt.Attempts as attempts
+use Rattle.art_call.specs.ArtAttempt.Cases.{demand_of}
+use Rattle.art_call.specs.ArtAttempt.declared.attempts.Job.{Job}
 use Rattle.art_call.specs.ArtAttempt.Trying.{StillTries}
-use Rattle.art_call.specs.ArtAttempt.declared.inserting.Inserting.{Inserting as Insertion}
-use Rattle.art_call.specs.ArtAttempt.declared.inserting.Stage.{Stage as InsertStage}
-use Rattle.art_call.specs.ArtAttempt.declared.inserting.Stage.TheVariants as insert
+use Rattle.art_call.specs.ArtAttempt.declared.attempts.Attempt.{Attempt}
+use Rattle.art_call.specs.ArtAttempt.declared.attempts.Stage.{Stage as AttemptStage}
+use Rattle.art_call.specs.ArtAttempt.declared.attempts.Stage.TheVariants as attempt
 use Rattle.art_call.specs.ArtAttempt.declared.rooms.Room.{Room}
 use Rattle.art_cell.specs.declared.cells.Cell.{Cell as CellOf}
 use Rattle.art_cell.specs.declared.cells.Cell.TheVariants as cell
 use Rattle.art_cell.specs.declared.cells.Node.{Node}
-use Rattle.art_call.proofs.ArtErase.Free as erase_free
-use Rattle.art_call.specs.ArtErase.Erasing as erases
-use Rattle.art_call.specs.ArtErase.declared.erasing.Erasing.{Erasing as Erasure}
-use Rattle.art_call.specs.ArtErase.declared.erasing.Stage.{Stage as EraseStage}
-use Rattle.art_call.specs.ArtErase.declared.erasing.Stage.TheVariants as erase
 use Rattle.art_call.proofs.ArtFind.Allowed.{none_held}
 use Rattle.art_call.specs.ArtFind.Descents as descents
-use Rattle.art_call.specs.ArtFind.declared.verdicts.Verdict.{Verdict}
-use Rattle.art_call.specs.ArtFind.declared.verdicts.Verdict.TheVariants as verdict
 use Rattle.art_call.specs.ArtGather.Reserve as reserve
 use Rattle.art_call.specs.ArtGather.declared.reserve.Reserve.{Reserve}
 use Rattle.art_call.specs.ArtGather.declared.reserve.Demand.{Demand}
@@ -55,6 +48,7 @@ use Rattle.art_step.specs.Views.{IsNotHeld, Memory}
 use Rattle.art_step.specs.declared.deeds.Deed.{Deed}
 use Rattle.art_step.specs.declared.views.Holding.{Holding}
 use Rattle.art_step.specs.declared.views.Sizes.{Sizes}
+use Rattle.art_step.specs.declared.views.Stamp.{Stamp}
 use Rattle.art_step.specs.declared.views.View.{View}
 use Rattle.art_world.specs.Lasting.{IsTimely}
 
@@ -129,33 +123,13 @@ descent_led z v (Some a) founded c is = (subst (IsCellFounded z v) (same_Some a 
 descent_led z v None founded c is = absurd (cc)
 
 -- the check of a place begins nothing
-insert_check_only : (t : Position) (found : Verdict) (c : CellOf) → inserts.check_by found t ≡ Begin c → ⊥
-insert_check_only t (verdict.Found l value) c is = cc
-insert_check_only t verdict.Empty c is = cc
-insert_check_only t (verdict.LeafMismatch l at byte) c is = cc
-insert_check_only t (verdict.PrefixMismatch n header at) c is = cc
-insert_check_only t (verdict.NoChild n header) c is = cc
-insert_check_only t verdict.Overlaps c is = cc
-insert_check_only t verdict.Torn c is = cc
-insert_check_only t verdict.Absent c is = cc
+check_only : (b : Bool) (x : Stamp) (c : CellOf) → attempts.check_as b x ≡ Begin c → ⊥
+check_only true x c is = cc
+check_only false x c is = cc
 
-erase_check_only : (t : Position) (found : Verdict) (c : CellOf) → erases.check_by found t ≡ Begin c → ⊥
-erase_check_only t (verdict.Found l value) c is = cc
-erase_check_only t verdict.Empty c is = cc
-erase_check_only t (verdict.LeafMismatch l at byte) c is = cc
-erase_check_only t (verdict.PrefixMismatch n header at) c is = cc
-erase_check_only t (verdict.NoChild n header) c is = cc
-erase_check_only t verdict.Overlaps c is = cc
-erase_check_only t verdict.Torn c is = cc
-erase_check_only t verdict.Absent c is = cc
-
-insert_place_led : (z : Sizes) (v : View) (p : Option Position) (o : Option Action) → IfSome o (IsCellFounded z v) → (c : CellOf) → inserts.asks_place p o ≡ Some (Begin c) → IsLedTo z v c
-insert_place_led z v (Some t) o founded c is = absurd (insert_check_only t t.verdict c (same_Some (inserts.check_of t) (Begin c) is))
-insert_place_led z v None o founded c is = descent_led z v o founded c is
-
-erase_place_led : (z : Sizes) (v : View) (p : Option Position) (o : Option Action) → IfSome o (IsCellFounded z v) → (c : CellOf) → erases.asks_place p o ≡ Some (Begin c) → IsLedTo z v c
-erase_place_led z v (Some t) o founded c is = absurd (erase_check_only t t.verdict c (same_Some (erases.check_of t) (Begin c) is))
-erase_place_led z v None o founded c is = descent_led z v o founded c is
+place_led : (z : Sizes) (v : View) (j : Job) (p : Option Position) (o : Option Action) → IfSome o (IsCellFounded z v) → (c : CellOf) → attempts.asks_place j p o ≡ Some (Begin c) → IsLedTo z v c
+place_led z v j (Some t) o founded c is = absurd (check_only (attempts.settles j t.verdict) t.stamp c (same_Some (attempts.check_of j t) (Begin c) is))
+place_led z v j None o founded c is = descent_led z v o founded c is
 
 -- ---- an attempt, of a call that began with the view u, and that itself began with the view b
 
@@ -176,38 +150,22 @@ module _ (z : Sizes) (m : Memory) (u b v : View) (had : HasFound m u v) (timely 
   change_founded : (early : View) (n : Apply) → apply.Fits z r.change n early v → apply.asks r.change n ≡ Some a → IsFounded z m v a
   change_founded early n fits is = apply_founded z m d r.change early v a may n fits is
 
-  -- of an insert
-  pub insert_founded : (i : Insertion) → length r.row.key.items ≤ 64 → (s : InsertStage) → inserts.StageFits z b s i r v → inserts.asks_at s i r ≡ Some a → IsFounded z m v a
-  insert_founded i short insert.Finding fits is =
-      let so = free_so z b i r v short insert.Finding refl refl fits in
-      cell_founded (inserts.finding_asks i.finding) is (ask_looks z (inserts.deed_at i r) v a (insert_finds.finding_allowed z b i r v fits a is)) so.still.free (insert_place_led z v (position_at i.finding) (descents.asks i.finding.descent.stage)
-      (descent_founded z r.row.key.items (inserts.present_of r.row) i.finding.descent.depth i.finding.descent.stage fits.early v so.still.free fits.fits.descent))
-  insert_founded i short insert.Reserve fits is =
-      let so = free_so z b i r v short insert.Reserve refl refl fits in
-      supplies_founded (demand_of z i.position.verdict) r.row.key.items r.row.value fits.0.early i.reserve fits.0.base so.still fits.0.fits.stage is
-  insert_founded i short insert.Vouching fits is =
-      let so = free_so z b i r v short insert.Vouching refl refl fits in
-      cell_founded (inserts.vouching_asks i) is (vouch_asks_look i.position i.vouching a is) so.still.free (λ c asks. absurd (vouching_begins_none i.position i.vouching c asks))
-  insert_founded i short insert.Apply fits is = change_founded fits.0.early i.apply fits.0.fits is
-  insert_founded i short (insert.Ended e) fits is = absurd (cc)
-
-  -- of a removal
-  pub erase_founded : (i : Erasure) → length r.gone.key.items ≤ 64 → (s : EraseStage) → erases.StageFits z b s i r v → erases.asks_at s i r ≡ Some a → IsFounded z m v a
-  erase_founded i short erase.Finding fits is =
-      let so = erase_free.free_so z b i r v short erase.Finding refl refl fits in
-      cell_founded (erases.finding_asks i.finding) is (ask_looks z (erases.absent r.gone) v a (erase_finds.finding_allowed z b i r v fits a is)) so.still.free (erase_place_led z v (position_at i.finding) (descents.asks i.finding.descent.stage)
-      (descent_founded z r.gone.key.items (erases.absent_of r.gone) i.finding.descent.depth i.finding.descent.stage fits.early v so.still.free fits.fits.descent))
-  erase_founded i short (erase.Reserve layout) fits is =
-      let so = erase_free.free_so z b i r v short (erase.Reserve layout) refl refl fits in
-      supplies_founded (erases.demand_of z layout) r.gone.key.items 0 fits.0.early i.reserve fits.0.base so.still fits.0.fits.stage is
-  erase_founded i short (erase.Reading q) fits is =
-      let so = erase_free.free_so z b i r v short (erase.Reading q) refl refl fits in
-      cell_founded (erases.reading_asks i q) is (reads_look i.position.stamp q a is) so.still.free (λ c asks. absurd (reads_only i.position.stamp q c asks))
-  erase_founded i short erase.Vouching fits is =
-      let so = erase_free.free_so z b i r v short erase.Vouching refl refl fits in
-      cell_founded (erases.vouching_asks i) is (vouch_asks_look i.position i.vouching a is) so.still.free (λ c asks. absurd (vouching_begins_none i.position i.vouching c asks))
-  erase_founded i short erase.Lowering fits is =
-      let so = erase_free.free_so z b i r v short erase.Lowering refl refl fits in
-      cell_founded (erases.lower_asks i) is (lower_asks_look i.position i.lowering a is) so.still.free (lower_begins z r.gone.key.items i.position fits.0.lower i.lowering r.read_set r.lower fits.0.early v fits.0.fits.stage)
-  erase_founded i short erase.Apply fits is = change_founded fits.0.early i.apply fits.0.fits is
-  erase_founded i short (erase.Ended e) fits is = absurd (cc)
+  pub attempt_founded : (i : Attempt) → length r.row.key.items ≤ 64 → (s : AttemptStage) → attempts.StageFits z b s i r v → attempts.asks_at s i r ≡ Some a → IsFounded z m v a
+  attempt_founded i short attempt.Finding fits is =
+      let so = free_so z b i r v short attempt.Finding refl refl fits in
+      cell_founded (attempts.finding_asks i.job i.finding) is (ask_looks z (attempts.deed_at i r) v a (finding_allowed z b i r v fits a is)) so.still.free (place_led z v i.job (position_at i.finding) (descents.asks i.finding.descent.stage)
+      (descent_founded z r.row.key.items (attempts.settled_of i.job r.row) i.finding.descent.depth i.finding.descent.stage fits.early v so.still.free fits.fits.descent))
+  attempt_founded i short attempt.Reserve fits is =
+      let so = free_so z b i r v short attempt.Reserve refl refl fits in
+      supplies_founded (demand_of z i.case i.position.verdict) r.row.key.items r.row.value fits.0.early i.reserve fits.0.base so.still fits.0.fits.stage is
+  attempt_founded i short (attempt.Reading q) fits is =
+      let so = free_so z b i r v short (attempt.Reading q) refl refl fits in
+      cell_founded (attempts.reading_asks i q) is (reads_look i.position.stamp q a is) so.still.free (λ c asks. absurd (reads_only i.position.stamp q c asks))
+  attempt_founded i short attempt.Vouching fits is =
+      let so = free_so z b i r v short attempt.Vouching refl refl fits in
+      cell_founded (attempts.vouching_asks i) is (vouch_asks_look i.position i.vouching a is) so.still.free (λ c asks. absurd (vouching_begins_none i.position i.vouching c asks))
+  attempt_founded i short attempt.Lowering fits is =
+      let so = free_so z b i r v short attempt.Lowering refl refl fits in
+      cell_founded (attempts.lower_asks i) is (lower_asks_look i.position i.lowering a is) so.still.free (lower_begins z r.row.key.items i.position fits.0.lower i.lowering r.read_set r.lower fits.0.early v fits.0.fits.stage)
+  attempt_founded i short attempt.Apply fits is = change_founded fits.0.early i.apply fits.0.fits is
+  attempt_founded i short (attempt.Ended e) fits is = absurd (cc)

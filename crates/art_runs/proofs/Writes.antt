@@ -4,12 +4,9 @@ use Rattle.art_call.specs.ArtAttempt.declared.rooms.Room.{Room}
 use Rattle.art_call.specs.AsAsked.{WriteMakes}
 use Rattle.art_call.specs.ArtAttempt.Asking.{Answers, IsAllowed, given}
 use Rattle.art_call.proofs.ArtChange.FrameSteps.{IsFrame, closing_frame, opening_frame}
-use Rattle.art_call.specs.ArtChange.Tries as tries
 use Rattle.art_call.specs.ArtChange.Writes.{Fits, StageFits, asks_at, deed_at, left_at, steps_left}
-use Rattle.art_call.specs.ArtChange.declared.tries.Job.{Job}
-use Rattle.art_call.specs.ArtChange.declared.tries.Job.TheVariants.{Insert, Remove}
-use Rattle.art_call.specs.ArtChange.declared.tries.Trying.{Trying}
-use Rattle.art_call.specs.ArtChange.declared.tries.Trying.TheVariants.{Inserting, Erasing}
+use Rattle.art_call.specs.ArtAttempt.Attempts as attempts
+use Rattle.art_call.specs.ArtAttempt.declared.attempts.Attempt.{Attempt}
 use Rattle.art_call.specs.ArtChange.declared.writes.Stage.{Stage}
 use Rattle.art_call.specs.ArtChange.declared.writes.Stage.TheVariants as stage
 use Rattle.art_call.specs.ArtChange.declared.writes.Write.{Write}
@@ -22,10 +19,10 @@ use Rattle.art_call.specs.ArtFrame.declared.closings.Closing.TheVariants.{Labell
 use Rattle.art_call.specs.ArtFrame.declared.stocks.Stock.{Stock}
 use Rattle.art_machine.specs.declared.actions.Action.{Action}
 use Rattle.art_machine.specs.declared.actions.Answer.{Answer}
-use Rattle.art_runs.proofs.Calm.{IsFounded, IsMoment, calm_current, frame_calm}
-use Rattle.art_runs.proofs.Apply.{IsRelease, NeedsCurrent, step_calm, step_keeps}
-use Rattle.art_runs.proofs.Phases.{erase_look, erase_release, insert_look, insert_release}
-use Rattle.art_runs.proofs.Tries.{erase_founded, insert_founded}
+use Rattle.art_runs.proofs.Calm.{IsMoment, calm_current, frame_calm}
+use Rattle.art_runs.proofs.Apply.{step_calm, step_keeps}
+use Rattle.art_runs.proofs.Phases.{attempt_look, attempt_release}
+use Rattle.art_runs.proofs.Tries.{attempt_founded}
 use Rattle.art_runs.proofs.Versions.{own_grows}
 use Rattle.art_runs.specs.OthersIdle.{AreCurrent, HasFound}
 use Rattle.art_step.specs.Shows.{Rest}
@@ -56,28 +53,6 @@ closing_few Labelling s = let few = count_few s in omega (arith, few)
 closing_few Giving s = let few = count_few s in omega (arith, few)
 closing_few Ended s = omega arith
 
--- ---- attempts of either kind
-
-module _ (z : Sizes) (m : Memory) (u b v : View) (had : HasFound m u v) (timely : IsTimely u) (late : u.steps ≤ b.steps) (begun : b.own ≡ u.own) (d : Deed) (r : Room) (a : Action) where
-  try_founded : IsAllowed z d r.change v a → (j : Job) (t : Trying) → tries.Fits z b j t r v → tries.asks t r ≡ Some a → IsFounded z m v a
-  try_founded may Insert (Inserting i) fits is = insert_founded z m u b v had timely late begun d r a may i fits.room.key.short i.stage fits.stage is
-  try_founded may Remove (Erasing i) fits is = erase_founded z m u b v had timely late begun d r a may i fits.room.key.short i.stage fits.stage is
-  try_founded may Insert (Erasing i) fits is = absurd fits
-  try_founded may Remove (Inserting i) fits is = absurd fits
-
-module _ (z : Sizes) (b v : View) (r : Room) (a : Action) (left : ℕ) where
-  try_look : (j : Job) (t : Trying) → tries.Fits z b j t r v → (tries.is_free t ≡ true → 0 < left) → tries.asks t r ≡ Some a → NeedsCurrent a → (v.own ≡ b.own) × (575 < tries.steps_left left t)
-  try_look Insert (Inserting i) fits some is look = insert_look z b v r a left i fits.room.key.short i.stage fits.stage some is look
-  try_look Remove (Erasing i) fits some is look = erase_look z b v r a left i fits.room.key.short i.stage fits.stage some is look
-  try_look Insert (Erasing i) fits some is look = absurd fits
-  try_look Remove (Inserting i) fits some is look = absurd fits
-
-  try_release : (j : Job) (t : Trying) → tries.Fits z b j t r v → tries.asks t r ≡ Some a → IsRelease a → v.own ≡ b.own → v.failures ≤ b.failures → 575 < tries.steps_left left t → ⊥
-  try_release Insert (Inserting i) fits is up own few many = insert_release z b v r a left i i.stage fits.stage is up own few many
-  try_release Remove (Erasing i) fits is up own few many = erase_release z b v r a left i i.stage fits.stage is up own few many
-  try_release Insert (Erasing i) fits is up own few many = absurd fits
-  try_release Remove (Inserting i) fits is up own few many = absurd fits
-
 -- ---- a step of a write, of a call that began with the view u and met no failure yet
 
 module _ (z : Sizes) (p : ℕ) (m : Memory) (f : Views) (m' : Memory) (f' : Views) (u v w : View) (had : HasFound m u v) (timely : IsTimely u) (none : v.failures ≡ u.failures) where
@@ -100,15 +75,15 @@ module _ (z : Sizes) (p : ℕ) (m : Memory) (f : Views) (m' : Memory) (f' : View
             keeps = λ own stays many. calm_current z p m f m' f' v w at calm stays (current own many);
           }
 
-      attempt_goes : (b : View) (j : Job) (t : Trying) (left : ℕ) → u.steps ≤ b.steps → u.failures ≤ b.failures → b.own ≡ u.own → tries.Fits z b j t r v → (tries.is_free t ≡ true → 0 < left)
-          → tries.asks t r ≡ Some a → (v.own ≡ u.own → 582 < tries.steps_left left t + 7 → AreCurrent m v) → Goes (tries.steps_left left t + 7)
-      attempt_goes b j t left late low begun fits some is current =
-          let founded = try_founded z m u b v had timely late begun d r a may j t fits is in
+      attempt_goes : (b : View) (t : Attempt) (left : ℕ) → u.steps ≤ b.steps → u.failures ≤ b.failures → b.own ≡ u.own → attempts.Fits z b t r v → (attempts.is_free t ≡ true → 0 < left)
+          → attempts.asks t r ≡ Some a → (v.own ≡ u.own → 582 < attempts.steps_left left t + 7 → AreCurrent m v) → Goes (attempts.steps_left left t + 7)
+      attempt_goes b t left late low begun fits some is current =
+          let founded = attempt_founded z m u b v had timely late begun d r a may t fits.room.key.short t.stage fits.stage is in
           record {
             failures = step_calm z p m f m' f' v w at (given d r.change a) a answer founded
-                (λ needs. (let e = try_look z b v r a left j t fits some is needs in let many = e.1 in current (e.0 ∙ begun) (omega (arith, many)))) may row;
+                (λ needs. (let e = attempt_look z b v r a left t fits.room.key.short t.stage fits.stage some is needs in let many = e.1 in current (e.0 ∙ begun) (omega (arith, many)))) may row;
             keeps = λ own stays many. step_keeps z p m f m' f' v w at (given d r.change a) a answer founded (current own many) stays
-                (λ up. try_release z b v r a left j t fits is up (own ∙ sym begun) (omega (arith, none, low)) (omega (arith, many))) may row;
+                (λ up. attempt_release z b v r a left t t.stage fits.stage is up (own ∙ sym begun) (omega (arith, none, low)) (omega (arith, many))) may row;
           }
 
       module _ (ps qs : List Place) (n : Write) where
@@ -121,7 +96,7 @@ module _ (z : Sizes) (p : ℕ) (m : Memory) (f : Views) (m' : Memory) (f' : View
             let more = t.begun.base.later.failures in
             let opened = ap (λ (x : View). x.failures) t.frame.frame.is in
             let own : t.began.own ≡ u.own = ap (λ (o : Rest). o.own) t.begun.base.rest ∙ ap (λ (x : View). x.own) t.frame.frame.is in
-            attempt_goes t.began n.job n.trying n.left (omega (arith, first, later)) (omega (arith, more, opened)) own t.fits fits.1 is current
+            attempt_goes t.began n.attempt n.left (omega (arith, first, later)) (omega (arith, more, opened)) own t.fits fits.1 is current
         write_goes stage.Closing fits current is =
             let few = closing_few n.closing r.stock in
             let g = frame_goes (closings.steps_left n.closing r.stock) (closing_frame n.closing r.stock a is) (λ own many. absurd (omega (arith, many, few))) in

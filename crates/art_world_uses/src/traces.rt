@@ -1,6 +1,6 @@
 //! The steps of inserts and removals, one after another, are those that were written down.
 ghost use Rattle.std.specs.Prelude.{◌≡◌, ◌<◌};
-ghost use Rattle.art_change.specs.Tries.{IsRoom};
+ghost use Rattle.art_attempt.specs.Attempts.{IsRoom};
 ghost use Rattle.art_change.specs.Writes.{IsFresh, IsReady};
 ghost use Rattle.art_epoch.specs.Limbo.{places_of};
 ghost use Rattle.art_step.specs.declared.views.View.{View};
@@ -89,7 +89,7 @@ fn steps_of(
             run(rt, stepper, Job::Insert, room, limbo, shown)
         }
         None => {
-            room.set_gone(key);
+            room.set(key, 0);
             run(rt, stepper, Job::Remove, room, limbo, shown)
         }
     }
@@ -104,7 +104,7 @@ fn run(
     limbo: &mut Limbo,
     shown: Shown,
 ) -> Text
-    requires room { IsRoom (sizes_of stepper.old) job room.old }
+    requires room { IsRoom (sizes_of stepper.old) room.old }
     requires ready { IsReady (sizes_of stepper.old) (view_of stepper.old) 0 (places_of limbo.old) room.old.stock }
     ensures only { OnlyStepped stepper.old stepper.new }
     ensures sizes { room.new.sizes ≡ sizes_of stepper.new }

@@ -7,10 +7,9 @@ use Rattle.art_call.specs.AsAsked.{WriteMakes}
 use Rattle.art_call.specs.Made.{MakesStep}
 use Rattle.art_change.specs.ArtAttempt.declared.rooms.Room.{Room}
 use Rattle.art_change.proofs.Overlaps.{none_overlaps, still_apart}
-use Rattle.art_change.specs.Tries.{SameKey, key_of}
+use Rattle.art_change.specs.Writes.{SameRow}
 use Rattle.art_change.specs.Writes as writes
 use Rattle.art_change.specs.Writes.{FindsOverlap, Fits, NoneOverlaps}
-use Rattle.art_change.specs.declared.tries.Job.{Job}
 use Rattle.art_epoch.specs.Limbo.{places_of}
 use Rattle.art_step.specs.declared.views.Sizes.{Sizes}
 use Rattle.art_step.specs.declared.views.View.{View}
@@ -19,8 +18,8 @@ some_there : {A : Type 0} (o : Option A) → is_some o ≡ true → (x : A) × (
 some_there (Some x) some = (x, refl)
 some_there None some = cc
 
-same_then : (j : Job) (a b r : Room) → SameKey j a b → SameKey j b r → SameKey j a r
-same_then j a b r first next = record { key = next.key ∙ first.key; value = next.value ∙ first.value }
+same_then : (a b r : Room) → SameRow a b → SameRow b r → SameRow a r
+same_then a b r first next = record { key = next.key ∙ first.key; value = next.value ∙ first.value }
 
 -- where none overlaps before the steps that were none, none does after them
 none_overlaps_at : (A B : List ℕ → Type 0) → ((k : List ℕ) → B k → A k) → (z y : Sizes) (k j : ArrayVec ℕ) (v u w : View) → y ≡ z → j ≡ k → u ≡ v → NoneOverlaps A z k.items v w → NoneOverlaps B y j.items u w
@@ -83,9 +82,8 @@ step-stepped-requires-clause-admitted g c =
     let l = c.loop-steps in
     let i = l.invariant in
     let m = c.args.write.now in
-    let here = subst (λ (k : ArrayVec ℕ). g.S.Steps.admits l.steps k.items) (sym i.key.key)
-    ((g.met.S.Steps.only_admits c.args.steps.now l.steps (key_of m.job c.args.room.now).items i.only).1 c.requires.admitted) in
-    subst (λ (j : Job). g.S.Steps.admits l.steps (key_of j l.room).items) (sym i.job) here
+    subst (λ (k : ArrayVec ℕ). g.S.Steps.admits l.steps k.items) (sym i.key.key)
+    ((g.met.S.Steps.only_admits c.args.steps.now l.steps c.args.room.now.row.key.items i.only).1 c.requires.admitted)
 
 pub step-stepped-requires-clause-fits : goal.step-stepped-requires-clause-fits
 step-stepped-requires-clause-fits g c =
@@ -147,8 +145,8 @@ pub returns-in-Some-clause-turns : goal.returns-in-Some-clause-turns
 returns-in-Some-clause-turns g c = c.step-stepped.ensures.turns ∙ c.loop-steps.invariant.turns
 
 pub returns-in-Some-clause-key : goal.returns-in-Some-clause-key
-returns-in-Some-clause-key g c = same_then c.args.write.now.job c.args.room.now c.loop-steps.room c.step-stepped.new.room c.loop-steps.invariant.key
-    (subst (λ (j : Job). SameKey j c.loop-steps.room c.step-stepped.new.room) c.loop-steps.invariant.job c.step-stepped.ensures.key)
+returns-in-Some-clause-key g c = same_then c.args.room.now c.loop-steps.room c.step-stepped.new.room c.loop-steps.invariant.key
+    c.step-stepped.ensures.key
 
 pub returns-in-Some-clause-refuses : goal.returns-in-Some-clause-refuses
 returns-in-Some-clause-refuses g c refuses = c.step-stepped.ensures.refuses (c.loop-steps.invariant.refuses refuses)
@@ -160,9 +158,9 @@ returns-in-Some-clause-apart g c none a =
     let s = c.args.steps.now in
     let w = g.S.Steps.view c.step-stepped.new.steps in
     let at = none_overlaps_at (g.S.Steps.admits s) (g.S.Steps.admits l.steps) (λ k. (g.met.S.Steps.only_admits s l.steps k i.only).0) in
-    let key : key_of l.write.job l.room ≡ key_of c.args.write.now.job c.args.room.now = ap (λ (j : Job). key_of j l.room) i.job ∙ i.key.key in
+    let key : l.room.row.key ≡ c.args.room.now.row.key = i.key.key in
     c.step-stepped.ensures.apart
-    (at (g.S.Steps.sizes s) (g.S.Steps.sizes l.steps) (key_of c.args.write.now.job c.args.room.now) (key_of l.write.job l.room) (g.S.Steps.view s) (g.S.Steps.view l.steps) w
+    (at (g.S.Steps.sizes s) (g.S.Steps.sizes l.steps) c.args.room.now.row.key l.room.row.key (g.S.Steps.view s) (g.S.Steps.view l.steps) w
     (g.met.S.Steps.only_sizes s l.steps i.only) key i.same none)
     (i.apart a)
 
@@ -203,9 +201,9 @@ loop-steps-preserved g c =
       same = none ∙ i.same;
       job = e.job ∙ i.job;
       turns = e.turns ∙ i.turns;
-      key = same_then c.args.write.now.job c.args.room.now l.room c.step-stepped.new.room i.key (subst (λ (j : Job). SameKey j l.room c.step-stepped.new.room) i.job e.key);
+      key = same_then c.args.room.now l.room c.step-stepped.new.room i.key e.key;
       refuses = λ refuses. e.refuses (i.refuses refuses);
-      apart = λ a. e.apart (none_overlaps (g.S.Steps.admits l.steps) (g.S.Steps.sizes l.steps) (key_of l.write.job l.room).items v w none) (i.apart a);
+      apart = λ a. e.apart (none_overlaps (g.S.Steps.admits l.steps) (g.S.Steps.sizes l.steps) l.room.row.key.items v w none) (i.apart a);
       left = omega (arith, left, less);
       waits = (
         suc i.waits.0,

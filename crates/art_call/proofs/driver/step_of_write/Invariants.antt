@@ -2,7 +2,7 @@
 use Rattle.std.proofs.Common.{◌≡◌, ◌≤◌, ℕ, List}
 use Rattle.art_call.proofs.driver.step_of_write.Given as goal
 use Rattle.art_call.specs.AsAsked.{WriteWaits}
-use Rattle.art_change.specs.Tries.{SameKey}
+use Rattle.art_change.specs.Writes.{SameRow}
 use Rattle.art_change.specs.Writes.{Fits, IsApart, WillRefuse, steps_left}
 use Rattle.art_epoch.specs.Limbo.{places_of}
 use Rattle.art_epoch.specs.declared.limbo.Place.{Place}
@@ -14,7 +14,7 @@ invariant-loop-steps g l = record {
   same : g.S.Steps.view l.steps ≡ g.S.Steps.view l.fn.steps;
   job : l.write.job ≡ l.fn.write.job;
   turns : l.write.turns ≡ l.fn.write.turns;
-  key : SameKey l.fn.write.job l.fn.room l.room;
+  key : SameRow l.fn.room l.room;
   refuses : WillRefuse l.fn.write → WillRefuse l.write;
   apart : IsApart l.fn.write → IsApart l.write;
   left : steps_left l.write l.room (places_of l.limbo) ≤ steps_left l.fn.write l.fn.room (places_of l.fn.limbo);

@@ -4,9 +4,7 @@ use Rattle.std.specs.Prelude.{None}
 use Rattle.arrayvec.specs.ArrayVec.{ArrayVec}
 use Rattle.art_change.proofs.Overlaps.{still_apart}
 use Rattle.art_change.proofs.driver.finish.Goals as goal
-use Rattle.art_change.specs.Tries.{SameKey, key_of}
 use Rattle.art_change.specs.Writes.{Fits}
-use Rattle.art_change.specs.declared.tries.Job.{Job as JobOf}
 use Rattle.art_epoch.specs.Limbo.{places_of}
 use Rattle.art_step.specs.declared.views.Sizes.{Sizes}
 
@@ -31,10 +29,8 @@ pub hurry-requires-clause-admitted : goal.hurry-requires-clause-admitted
 hurry-requires-clause-admitted g c =
     let l = c.loop-steps in
     let i = l.invariant in
-    let job = c.args.write.now.job in
-    let here = subst (λ (k : ArrayVec ℕ). g.S.Steps.admits l.steps k.items) (sym i.key.key)
-    ((g.met.S.Steps.only_admits c.args.steps.now l.steps (key_of job c.args.room.now).items i.only).1 c.requires.admitted) in
-    subst (λ (j : JobOf). g.S.Steps.admits l.steps (key_of j l.room).items) (sym i.job) here
+    subst (λ (k : ArrayVec ℕ). g.S.Steps.admits l.steps k.items) (sym i.key.key)
+    ((g.met.S.Steps.only_admits c.args.steps.now l.steps c.args.room.now.row.key.items i.only).1 c.requires.admitted)
 
 pub hurry-requires-clause-fits : goal.hurry-requires-clause-fits
 hurry-requires-clause-fits g c =
@@ -48,12 +44,10 @@ step-requires-clause-admitted g c =
     let l = c.loop-steps in
     let i = l.invariant in
     let e = c.hurry.ensures in
-    let job = c.args.write.now.job in
-    let same = subst (λ (j : JobOf). SameKey j l.room c.hurry.new.room) i.job e.same.key in
-    let here = subst (λ (k : ArrayVec ℕ). g.S.Steps.admits c.hurry.new.steps k.items) (sym (same.key ∙ i.key.key))
-    ((g.met.S.Steps.only_admits l.steps c.hurry.new.steps (key_of job c.args.room.now).items e.only).1
-    ((g.met.S.Steps.only_admits c.args.steps.now l.steps (key_of job c.args.room.now).items i.only).1 c.requires.admitted)) in
-    subst (λ (j : JobOf). g.S.Steps.admits c.hurry.new.steps (key_of j c.hurry.new.room).items) (sym (e.same.job ∙ i.job)) here
+    let same = e.same.key in
+    subst (λ (k : ArrayVec ℕ). g.S.Steps.admits c.hurry.new.steps k.items) (sym (same.key ∙ i.key.key))
+    ((g.met.S.Steps.only_admits l.steps c.hurry.new.steps c.args.room.now.row.key.items e.only).1
+    ((g.met.S.Steps.only_admits c.args.steps.now l.steps c.args.room.now.row.key.items i.only).1 c.requires.admitted))
 
 pub step-requires-clause-fits : goal.step-requires-clause-fits
 step-requires-clause-fits g c =
@@ -90,8 +84,8 @@ loop-steps-preserved g c =
       job = e.job ∙ (h.same.job ∙ i.job);
       turns = e.turns ∙ (h.same.turns ∙ i.turns);
       key =
-          let one = subst (λ (j : JobOf). SameKey j l.room c.hurry.new.room) i.job h.same.key in
-          let two = subst (λ (j : JobOf). SameKey j c.hurry.new.room c.step.new.room) (h.same.job ∙ i.job) e.key in
+          let one = h.same.key in
+          let two = e.key in
           record { key = two.key ∙ (one.key ∙ i.key.key); value = two.value ∙ (one.value ∙ i.key.value) };
       refuses = λ r. e.refuses (h.same.refuses (i.refuses r));
       apart = λ keys a. e.apart (inl (still_apart (g.S.Steps.admits s) (g.S.Steps.admits c.hurry.new.steps) (λ k. (g.met.S.Steps.only_admits s c.hurry.new.steps k only).0) keys)) (h.same.apart (i.apart keys a));
@@ -108,7 +102,7 @@ pub returns-then-is_some-clause-key : goal.returns-then-is_some-clause-key
 returns-then-is_some-clause-key g c =
     let l = c.loop-steps in
     let i = l.invariant in
-    let one = subst (λ (j : JobOf). SameKey j l.room c.hurry.new.room) i.job c.hurry.ensures.same.key in
+    let one = c.hurry.ensures.same.key in
     record { key = one.key ∙ i.key.key; value = one.value ∙ i.key.value }
 
 pub returns-then-is_some-clause-refuses : goal.returns-then-is_some-clause-refuses

@@ -1,8 +1,7 @@
 -- So far the write goes on.
 use Rattle.std.proofs.Common.{◌≡◌, ◌+◌, ◌≤◌, List}
 use Rattle.art_change.proofs.driver.finish.Given as goal
-use Rattle.art_change.specs.Tries.{SameKey}
-use Rattle.art_change.specs.Writes.{Fits, IsApart, WillRefuse, steps_left}
+use Rattle.art_change.specs.Writes.{Fits, IsApart, SameRow, WillRefuse, steps_left}
 use Rattle.art_epoch.specs.Limbo.{places_of}
 use Rattle.art_epoch.specs.declared.limbo.Place.{Place}
 use Rattle.art_step.specs.Histories.{AreApart}
@@ -14,7 +13,7 @@ invariant-loop-steps g l = record {
   sizes : g.S.Steps.sizes l.steps ≡ g.S.Steps.sizes l.fn.steps;
   job : l.write.job ≡ l.fn.write.job;
   turns : l.write.turns ≡ l.fn.write.turns;
-  key : SameKey l.fn.write.job l.fn.room l.room;
+  key : SameRow l.fn.room l.room;
   refuses : WillRefuse l.fn.write → WillRefuse l.write;
   apart : AreApart (g.S.Steps.admits l.fn.steps) → IsApart l.fn.write → IsApart l.write;
   left : (g.S.Steps.view l.steps).steps + steps_left l.write l.room (places_of l.limbo) ≤

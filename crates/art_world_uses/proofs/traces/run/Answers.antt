@@ -11,7 +11,7 @@ loop-outcome-init g c =
     let z = sizes_of c.args.stepper.now in
     let u = view_of c.args.stepper.now in
     let ps = places_of c.args.limbo.now in
-    record { only = only_same c.args.stepper.now; fits = c.new-write.ensures.fits z u (ready_may z u 0 c.args.job ps c.args.room.now c.requires.ready c.requires.room) }
+    record { only = only_same c.args.stepper.now; fits = c.new-write.ensures.fits z u (ready_may z u 0 ps c.args.room.now c.requires.ready c.requires.room) }
 
 pub loop-outcome-preserved : goal.loop-outcome-preserved
 loop-outcome-preserved g c =

@@ -1,8 +1,7 @@
 use Rattle.std.proofs.Common.{sym, ap, subst}
 use Rattle.art_attempt.specs.declared.rooms.Room.{Room as RoomOf}
-use Rattle.art_change.specs.Tries.{IsRoom}
+use Rattle.art_attempt.specs.Attempts.{IsRoom}
 use Rattle.art_change.specs.Writes.{IsReady}
-use Rattle.art_change.specs.declared.tries.Job.TheVariants.{Insert}
 use Rattle.art_world_uses.proofs.traces.steps_of.Goals as goal
 use Rattle.art_epoch.specs.Limbo.{places_of}
 use Rattle.art_frame.specs.declared.stocks.Stock.{Stock}
@@ -10,7 +9,7 @@ use Rattle.art_world.specs.Stepper.{sizes_of, view_of}
 
 pub run-requires-clause-room : goal.run-requires-clause-room
 run-requires-clause-room g c =
-    subst (IsRoom (sizes_of c.args.stepper.now) Insert) (sym c.set.ensures.row) (record { sizes = c.requires.sizes; key = c.set.ensures.key })
+    subst (IsRoom (sizes_of c.args.stepper.now)) (sym c.set.ensures.row) (record { sizes = c.requires.sizes; key = c.set.ensures.key })
 
 pub run-requires-clause-ready : goal.run-requires-clause-ready
 run-requires-clause-ready g c =

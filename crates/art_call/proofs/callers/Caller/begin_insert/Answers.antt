@@ -3,9 +3,8 @@ use Rattle.art_change.specs.ArtAttempt.declared.rooms.Room.{Room}
 use Rattle.art_call.proofs.callers.Caller.begin_insert.Goals as goal
 use Rattle.art_change.proofs.Ready.{ready_may}
 use Rattle.art_change.specs.ArtAttempt.Trying.{IsKey}
-use Rattle.art_change.specs.Tries.{IsRoom, key_of}
+use Rattle.art_change.specs.ArtAttempt.Attempts.{IsRoom}
 use Rattle.art_change.specs.Writes.{IsReady}
-use Rattle.art_change.specs.declared.tries.Job.TheVariants.{Insert}
 use Rattle.art_epoch.specs.Limbo.{places_of}
 use Rattle.art_frame.specs.declared.stocks.Stock.{Stock}
 
@@ -16,12 +15,12 @@ returns-clause-calling c z u may =
     let m = c.new-write.ensures in
     let ps = places_of a.limbo in
     let same = c.set.ensures.row in
-    let room : IsRoom z Insert r = record {
+    let room : IsRoom z r = record {
       sizes = ap (λ (r : Room). r.sizes) same ∙ may.sizes;
-      key = subst (λ (s : Room). IsKey (key_of Insert s).items) (sym same) c.set.ensures.key;
+      key = subst (λ (s : Room). IsKey s.row.key.items) (sym same) c.set.ensures.key;
     } in
     let ready : IsReady z u a.own ps r.stock = subst (λ (s : Stock). IsReady z u a.own ps s) (sym (ap (λ (r : Room). r.stock) same)) may.ready in
-    let write = ready_may z u a.own Insert ps r ready room in
+    let write = ready_may z u a.own ps r ready room in
     let left = m.left z u write in
     let few = may.few in
     let places = c.room.ensures in

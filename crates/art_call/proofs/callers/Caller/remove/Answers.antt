@@ -1,10 +1,9 @@
+use Rattle.std.proofs.Common.{ap}
 use Rattle.art_call.proofs.callers.Caller.remove.Goals as goal
+use Rattle.art_change.specs.ArtAttempt.declared.rooms.Room.{Room}
 
-pub make_write-requires-clause-admitted : goal.make_write-requires-clause-admitted
-make_write-requires-clause-admitted g c = rw c.set_gone.ensures.gone c.requires.admitted
-
-pub make_write-requires-clause-room : goal.make_write-requires-clause-room
-make_write-requires-clause-room g c = record { sizes = rw c.set_gone.ensures.gone c.requires.caller.sizes; key = rw c.set_gone.ensures.gone c.set_gone.ensures.key }
+pub make_write-requires-clause-value : goal.make_write-requires-clause-value
+make_write-requires-clause-value g c is = ap (λ (r : Room). r.row.value) c.set.ensures.row
 
 pub returns-clause-called : goal.returns-clause-called
-returns-clause-called g c = rw c.set_gone.ensures.gone at c.make_write.ensures.called
+returns-clause-called g c = rw c.set.ensures.row at c.make_write.ensures.called

@@ -8,7 +8,7 @@ returns-then-self-eq0-clause-left c first qs = let few = c.close.ensures.left qs
 pub returns-then-self-eq0-clause-fits : goal.returns-then-self-eq0-clause-fits
 returns-then-self-eq0-clause-fits c first z u opened v ps qs room frame begun has counted =
     let m = c.args.self.now in
-    c.close.ensures.fits z u opened v v ps qs room frame begun (begun_so z opened m.restarts v begun m.job c.args.room.now has, c.if-self-eq0.true) counted
+    c.close.ensures.fits z u opened v v ps qs room frame begun (record { job = first.job; fits = (begun_so z opened m.restarts v begun c.args.room.now has, c.if-self-eq0.true) }) counted
 
 pub returns-clause-left : goal.returns-clause-left
 returns-clause-left c first qs =
@@ -24,6 +24,7 @@ returns-clause-fits c first z u opened v ps qs room frame begun has counted = re
       began = v;
       frame = frame;
       begun = begun;
+      job = first.job;
       fits = first.fits z v c.args.room.now room (begun_tries z opened c.args.self.now.restarts v begun) has;
       going = first.going;
       counted = counted;

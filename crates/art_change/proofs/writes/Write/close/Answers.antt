@@ -1,18 +1,17 @@
 use Rattle.std.proofs.Common.{◌≡◌, ◌≤◌, ℕ, false, List, length, sym, subst, arith}
 use Rattle.art_change.proofs.Frames.{begins_few, begins_going, may_close}
 use Rattle.art_change.proofs.writes.Write.close.Goals as goal
-use Rattle.art_change.specs.Tries.{key_of, value_of}
-use Rattle.art_erase.specs.ArtFrame.Closings.{ClosingFits, MayClose, is_ended, steps_left}
-use Rattle.art_erase.specs.ArtFrame.declared.closings.Closing.{Closing}
+use Rattle.art_frame.specs.Closings.{ClosingFits, MayClose, is_ended, steps_left}
+use Rattle.art_frame.specs.declared.closings.Closing.{Closing}
 use Rattle.art_step.specs.Tokens.{links_of}
 
 pub returns-clause-fits : goal.returns-clause-fits
 returns-clause-fits c z u opened began v ps qs room frame begun outcome counted =
     let m = c.args.self.now in
     let r = c.args.room.now in
-    let may = may_close z u opened began ps qs frame.frame begun.base m.job m.trying r v c.args.outcome m.left outcome (subst (λ (words : List ℕ). length words ≤ 3) c.gone_by.ensures.words c.gone_by.ensures.few) in
-    let fits = c.new-self.ensures.fits z (key_of m.job r).items (value_of m.job r) v qs r.stock
-    (subst (λ (words : List ℕ). MayClose z (key_of m.job r).items (value_of m.job r) v qs (links_of words) r.stock) (sym c.gone_by.ensures.words) may) in
+    let may = may_close z u opened began ps qs frame.frame begun.base m.job m.attempt r v c.args.outcome m.left outcome (subst (λ (words : List ℕ). length words ≤ 3) c.gone_by.ensures.words c.gone_by.ensures.few) in
+    let fits = c.new-self.ensures.fits z r.row.key.items r.row.value v qs r.stock
+    (subst (λ (words : List ℕ). MayClose z r.row.key.items r.row.value v qs (links_of words) r.stock) (sym c.gone_by.ensures.words) may) in
     record {
       room = room;
       stage = (
@@ -27,7 +26,7 @@ returns-clause-fits c z u opened began v ps qs room frame begun outcome counted 
           outcome = outcome;
           later = omega arith;
           counted = counted;
-          fits = subst (λ (words : List ℕ). ClosingFits z (key_of m.job r).items (value_of m.job r) v qs (links_of words) c.new-self.result qs r.stock v) c.gone_by.ensures.words fits;
+          fits = subst (λ (words : List ℕ). ClosingFits z r.row.key.items r.row.value v qs (links_of words) c.new-self.result qs r.stock v) c.gone_by.ensures.words fits;
         },
         subst (λ (q : Closing). is_ended q ≡ false) (sym c.new-self.ensures.begins) (begins_going c.gone_by.result.now),
       );

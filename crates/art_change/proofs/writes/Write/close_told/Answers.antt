@@ -5,11 +5,10 @@ use Rattle.art_change.specs.Writes.{IsClosing, StageFits, left_at}
 use Rattle.art_change.specs.declared.writes.Write.{Write}
 use Rattle.art_change.specs.declared.writes.Stage.{Stage as StageOf}
 use Rattle.art_change.specs.declared.writes.Stage.TheVariants.{Closing, Ended}
-use Rattle.art_erase.specs.ArtAttempt.declared.rooms.Room.{Room as RoomOf}
+use Rattle.art_attempt.specs.declared.rooms.Room.{Room as RoomOf}
 use Rattle.art_change.proofs.FrameSteps.{closing_frame, frame_one}
 use Rattle.art_epoch.specs.Limbo.{places_of}
-use Rattle.art_change.specs.Tries.{key_of, value_of}
-use Rattle.art_erase.specs.ArtFrame.Closings.{ClosingFits}
+use Rattle.art_frame.specs.Closings.{ClosingFits}
 use Rattle.art_step.specs.Tokens.{links_of}
 
 pub returns-then-ended-clause-fits : goal.returns-then-ended-clause-fits
@@ -19,8 +18,8 @@ returns-then-ended-clause-fits c z u v w ps asked room k is row =
     let words = c.gone_by.ensures.words in
     let one = frame_one z asked c.args.answer v w (closing_frame m.closing r.stock asked is) row in
     let before = k.later in
-    let fits = c.told.ensures.fits z (key_of m.job r).items (value_of m.job r) k.ended v w k.waiting asked
-    (subst (λ (ws : List ℕ). ClosingFits z (key_of m.job r).items (value_of m.job r) k.ended k.waiting (links_of ws) m.closing (places_of c.args.limbo.now) r.stock v) (sym words) k.fits) is row in
+    let fits = c.told.ensures.fits z r.row.key.items r.row.value k.ended v w k.waiting asked
+    (subst (λ (ws : List ℕ). ClosingFits z r.row.key.items r.row.value k.ended k.waiting (links_of ws) m.closing (places_of c.args.limbo.now) r.stock v) (sym words) k.fits) is row in
     let next : Write = record m { stage = Ended; closing = c.told.new.self } in
     let then : RoomOf = record r { stock = c.told.new.stock } in
     let closing : IsClosing z u ps next then (places_of c.told.new.limbo) w = record {
@@ -34,11 +33,11 @@ returns-then-ended-clause-fits c z u v w ps asked room k is row =
       outcome = k.outcome;
       later = omega (arith, one, before);
       counted = k.counted;
-      fits = subst (λ (ws : List ℕ). ClosingFits z (key_of m.job r).items (value_of m.job r) k.ended k.waiting (links_of ws) c.told.new.self (places_of c.told.new.limbo) c.told.new.stock w) words fits;
+      fits = subst (λ (ws : List ℕ). ClosingFits z r.row.key.items r.row.value k.ended k.waiting (links_of ws) c.told.new.self (places_of c.told.new.limbo) c.told.new.stock w) words fits;
     } in
     record {
       room = record { sizes = room.sizes; key = room.key };
-      stage = done_by z u k.began k.ended ps m.job m.trying (record r { stock = k.stock }) m.outcome m.left next then (places_of c.told.new.limbo) w k.outcome (closing, sym c.ended.ensures.at ∙ c.if-ended.true);
+      stage = done_by z u k.began k.ended ps m.job m.attempt (record r { stock = k.stock }) m.outcome m.left next then (places_of c.told.new.limbo) w k.outcome (closing, sym c.ended.ensures.at ∙ c.if-ended.true);
     }
 
 pub returns-else-ended-clause-fits : goal.returns-else-ended-clause-fits
@@ -48,8 +47,8 @@ returns-else-ended-clause-fits c z u v w ps asked room k is row =
     let words = c.gone_by.ensures.words in
     let one = frame_one z asked c.args.answer v w (closing_frame m.closing r.stock asked is) row in
     let before = k.later in
-    let fits = c.told.ensures.fits z (key_of m.job r).items (value_of m.job r) k.ended v w k.waiting asked
-    (subst (λ (ws : List ℕ). ClosingFits z (key_of m.job r).items (value_of m.job r) k.ended k.waiting (links_of ws) m.closing (places_of c.args.limbo.now) r.stock v) (sym words) k.fits) is row in
+    let fits = c.told.ensures.fits z r.row.key.items r.row.value k.ended v w k.waiting asked
+    (subst (λ (ws : List ℕ). ClosingFits z r.row.key.items r.row.value k.ended k.waiting (links_of ws) m.closing (places_of c.args.limbo.now) r.stock v) (sym words) k.fits) is row in
     let next : Write = record m { closing = c.told.new.self } in
     let then : RoomOf = record r { stock = c.told.new.stock } in
     let closing : IsClosing z u ps next then (places_of c.told.new.limbo) w = record {
@@ -63,7 +62,7 @@ returns-else-ended-clause-fits c z u v w ps asked room k is row =
       outcome = k.outcome;
       later = omega (arith, one, before);
       counted = k.counted;
-      fits = subst (λ (ws : List ℕ). ClosingFits z (key_of m.job r).items (value_of m.job r) k.ended k.waiting (links_of ws) c.told.new.self (places_of c.told.new.limbo) c.told.new.stock w) words fits;
+      fits = subst (λ (ws : List ℕ). ClosingFits z r.row.key.items r.row.value k.ended k.waiting (links_of ws) c.told.new.self (places_of c.told.new.limbo) c.told.new.stock w) words fits;
     } in
     record {
       room = record { sizes = room.sizes; key = room.key };

@@ -1,7 +1,7 @@
 use Rattle.std.proofs.Common.{ap, refl, subst}
 use Rattle.art_change.proofs.Answered.{answered}
 use Rattle.art_change.proofs.Counted.{write_counted}
-use Rattle.art_change.proofs.Gone.{gone_so}
+use Rattle.art_change.proofs.Changed.{changed_so}
 use Rattle.art_change.proofs.Ready.{ready_again}
 use Rattle.art_change.proofs.Refused.{refused_so}
 use Rattle.art_change.proofs.writes.Write.ended.Goals as goal
@@ -30,7 +30,7 @@ returns-in-Ended-clause-grounds c z u v ps qs r fits =
       outcome_is = refl;
       done = done;
       refused = refused_so z u ps m r qs v m.outcome refl done;
-      erased = gone_so z u ps m r qs v m.outcome refl done;
+      changed = changed_so z u ps m r qs v m.outcome refl done;
     }
 
 pub returns-in-Ended-clause-ready : goal.returns-in-Ended-clause-ready

@@ -1,5 +1,4 @@
 use Rattle.std.proofs.Common.{subst}
-use Rattle.art_change.specs.Tries.{key_of, value_of}
 use Rattle.art_change.specs.Writes.{StageFits, gone_by}
 use Rattle.art_change.specs.declared.writes.Stage.{Stage as StageOf}
 use Rattle.art_epoch.specs.Limbo.{places_of}
@@ -18,4 +17,4 @@ returns-in-Closing-clause-allowed c z u v ps fits =
     let r = c.args.room.now in
     let qs = places_of c.args.limbo.now in
     let k = (subst (λ (s : StageOf). StageFits z u ps s m r qs v) c.in-Closing.is fits.stage).0 in
-    c.next-in-Closing.ensures.allowed z (key_of m.job r).items (value_of m.job r) k.ended v k.waiting qs (links_of (gone_by m.outcome r.change)) k.fits
+    c.next-in-Closing.ensures.allowed z r.row.key.items r.row.value k.ended v k.waiting qs (links_of (gone_by m.outcome r.change)) k.fits

@@ -3,13 +3,13 @@ use Rattle.std.proofs.Common.{◌≡◌, ◌∙◌, None, ⊎_elim, refl, sym, s
 use Rattle.art_change.proofs.Steps.{framed}
 use Rattle.art_change.proofs.SameWrite.{same_still, same_then}
 use Rattle.art_change.proofs.FrameSteps.{frame_one}
-use Rattle.art_change.specs.Tries.{IsOverlapBy}
+use Rattle.art_attempt.specs.Attempts.{IsOverlapBy}
 use Rattle.art_change.specs.Writes.{IsSameWrite, deed_at}
 use Rattle.art_change.specs.declared.writes.Outcome.TheVariants.{Overlaps}
 use Rattle.art_change.specs.declared.writes.Stage.TheVariants.{Trying}
 use Rattle.art_machine.proofs.AnswerKinds.{answers_any}
 use Rattle.art_machine.specs.Acting.{Answers, IsAllowed}
-use Rattle.art_erase.specs.ArtAttempt.Asking.{given}
+use Rattle.art_attempt.specs.Asking.{given}
 use Rattle.art_epoch.specs.Limbo.{places_of}
 use Rattle.art_step.specs.declared.views.Sizes.{Sizes}
 use Rattle.art_change.proofs.writes.Write.frame_on.Goals as goal
@@ -71,7 +71,7 @@ loop-asked-preserved g c =
       turns = e.turns;
       key = e.key;
       refuses = e.refuses;
-      apart = λ is over. ⊎_elim (λ (had : m.outcome ≡ Overlaps). is had) (λ (was : (m.stage ≡ Trying) × IsOverlapBy m.trying c.perform-answer.result). c.in-Some.ensures.framed was.0) (e.overlaps over);
+      apart = λ is over. ⊎_elim (λ (had : m.outcome ≡ Overlaps). is had) (λ (was : (m.stage ≡ Trying) × IsOverlapBy m.attempt c.perform-answer.result). c.in-Some.ensures.framed was.0) (e.overlaps over);
     } in
     let later = i.later in
     let left = i.left in

@@ -2,9 +2,7 @@
 use Rattle.std.proofs.Common.{◌∙◌, ℕ, refl, sym, subst, arith}
 use Rattle.arrayvec.specs.ArrayVec.{ArrayVec}
 use Rattle.art_change.proofs.SameWrite.{same_still, same_then}
-use Rattle.art_change.specs.Tries.{key_of}
 use Rattle.art_change.specs.Writes.{Fits}
-use Rattle.art_change.specs.declared.tries.Job.{Job as JobOf}
 use Rattle.art_epoch.specs.Limbo.{places_of}
 use Rattle.art_step.specs.declared.views.Sizes.{Sizes}
 use Rattle.art_change.proofs.writes.Write.hurry.Goals as goal
@@ -23,10 +21,8 @@ pub hurry_stage-requires-clause-admitted : goal.hurry_stage-requires-clause-admi
 hurry_stage-requires-clause-admitted g c =
     let l = c.stages in
     let i = l.invariant in
-    let job = c.args.self.now.job in
-    let here = subst (λ (k : ArrayVec ℕ). g.S.Steps.admits l.steps k.items) (sym i.same.key.key)
-    ((g.met.S.Steps.only_admits c.args.steps.now l.steps (key_of job c.args.room.now).items i.only).1 c.requires.admitted) in
-    subst (λ (j : JobOf). g.S.Steps.admits l.steps (key_of j l.room).items) (sym i.same.job) here
+    subst (λ (k : ArrayVec ℕ). g.S.Steps.admits l.steps k.items) (sym i.same.key.key)
+    ((g.met.S.Steps.only_admits c.args.steps.now l.steps c.args.room.now.row.key.items i.only).1 c.requires.admitted)
 
 pub hurry_stage-requires-clause-fits : goal.hurry_stage-requires-clause-fits
 hurry_stage-requires-clause-fits g c =

@@ -1,12 +1,12 @@
 -- The room is as it was but for where searches begin, so the opening goes on in it.
 use Rattle.std.proofs.Common.{sym, subst}
-use Rattle.art_erase.specs.ArtAttempt.declared.rooms.Room.{Room}
+use Rattle.art_attempt.specs.Attempts.{IsRoom}
+use Rattle.art_attempt.specs.declared.rooms.Room.{Room}
 use Rattle.art_change.proofs.Frames.{given_opening, given_room}
 use Rattle.art_change.proofs.writes.Write.open_on.Goals as goal
-use Rattle.art_change.specs.Tries.{IsRoom}
 use Rattle.art_change.specs.Writes.{IsOpening, freed_by}
 use Rattle.art_epoch.specs.Limbo.{places_of}
-use Rattle.art_erase.specs.ArtFrame.Openings.{asks as opening_asks}
+use Rattle.art_frame.specs.Openings.{asks as opening_asks}
 
 pub open_told-requires-clause-told : goal.open_told-requires-clause-told
 open_told-requires-clause-told c =
@@ -16,7 +16,7 @@ open_told-requires-clause-told c =
     let qs = places_of c.args.limbo.now in
     let o = freed_by (opening_asks m.opening qs) in
     let at = sym c.note_given.ensures in
-    (q.0, q.1, q.2, q.3, q.4, q.5, subst (λ (s : Room). IsRoom q.0 m.job s) at (given_room q.0 m.job o r q.6), subst (λ (s : Room). IsOpening q.0 q.1 q.4 m s qs q.2) at (given_opening q.0 q.1 q.4 m o r qs q.2 q.7), q.8, q.9)
+    (q.0, q.1, q.2, q.3, q.4, q.5, subst (λ (s : Room). IsRoom q.0 s) at (given_room q.0 o r q.6), subst (λ (s : Room). IsOpening q.0 q.1 q.4 m s qs q.2) at (given_opening q.0 q.1 q.4 m o r qs q.2 q.7), q.8, q.9)
 
 pub returns-clause-left : goal.returns-clause-left
 returns-clause-left c = c.open_told.ensures.left
@@ -28,4 +28,4 @@ returns-clause-fits c z u v w ps asked room opening is row =
     let qs = places_of c.args.limbo.now in
     let o = freed_by (opening_asks m.opening qs) in
     let at = sym c.note_given.ensures in
-    c.open_told.ensures.fits z u v w ps asked (subst (λ (s : Room). IsRoom z m.job s) at (given_room z m.job o r room)) (subst (λ (s : Room). IsOpening z u ps m s qs v) at (given_opening z u ps m o r qs v opening)) is row
+    c.open_told.ensures.fits z u v w ps asked (subst (λ (s : Room). IsRoom z s) at (given_room z o r room)) (subst (λ (s : Room). IsOpening z u ps m s qs v) at (given_opening z u ps m o r qs v opening)) is row

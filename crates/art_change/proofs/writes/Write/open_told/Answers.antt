@@ -8,8 +8,8 @@ use Rattle.art_change.specs.declared.writes.Stage.{Stage as StageOf}
 use Rattle.art_change.specs.declared.writes.Stage.TheVariants.{Opening}
 use Rattle.art_change.proofs.FrameSteps.{frame_one, opening_frame}
 use Rattle.art_epoch.specs.Limbo.{places_of}
-use Rattle.art_erase.specs.ArtFrame.Openings.{HasEnded}
-use Rattle.art_erase.specs.ArtFrame.declared.openings.Opened.{Opened}
+use Rattle.art_frame.specs.Openings.{HasEnded}
+use Rattle.art_frame.specs.declared.openings.Opened.{Opened}
 
 pub returns-in-Some-Pinned-clause-fits : goal.returns-in-Some-Pinned-clause-fits
 returns-in-Some-Pinned-clause-fits c z u v w ps asked room o is row =
@@ -22,7 +22,7 @@ returns-in-Some-Pinned-clause-fits c z u v w ps asked room o is row =
     let one = frame_one z asked c.args.answer v w (opening_frame c.args.self.now.opening (places_of c.args.limbo.now) asked is) row in
     let before = o.later in
     c.begin.ensures.fits o.first z u w w ps qs room (record { frame = frame; later = omega (arith, one, before) })
-    (opened_begun z u w ps qs frame o.free m.restarts o.fresh) (opened_has z u w ps qs frame o.free m.job r o.has)
+    (opened_begun z u w ps qs frame o.free m.restarts o.fresh) (opened_has z u w ps qs frame o.free r o.has)
     (let full = o.full in omega (arith, full))
 
 pub returns-in-Some-Crowded-clause-fits : goal.returns-in-Some-Crowded-clause-fits

@@ -8,9 +8,9 @@ returns-clause-fits c z u v ps qs fits =
     let m = c.args.self.now in
     let r = c.args.room.now in
     let t = (subst (λ (s : StageOf). StageFits z u ps s m r qs v) c.requires.stage fits.stage).0 in
-    let so = c.is_free.ensures.free c.if-not-is_free.false t.going z t.began v m.job r t.fits in
+    let so = c.is_free.ensures.free c.if-not-is_free.false t.going z t.began v r t.fits in
     let counted = t.counted in
     let first = t.begun.base.later.steps in
     let last = so.still.later.steps in
     let used = c.saturating_sub-self.ensures in
-    c.close.ensures.fits z u t.opened t.began v ps qs fits.room t.frame t.begun (so, refl) (omega (arith, counted, first, last, used))
+    c.close.ensures.fits z u t.opened t.began v ps qs fits.room t.frame t.begun (record { job = t.job; fits = (so, refl) }) (omega (arith, counted, first, last, used))

@@ -2,13 +2,12 @@ use Rattle.std.proofs.Common.{◌∙◌, ◌<◌, inl, ap, sym, subst}
 use Rattle.art_change.proofs.FrameSteps.{closing_frame, frame_plain, opening_frame}
 use Rattle.art_change.proofs.Frames.{given_key}
 use Rattle.art_change.proofs.writes.Write.told.Goals as goal
-use Rattle.art_change.specs.Tries.{SameKey}
-use Rattle.art_change.specs.Writes.{StageFits, asks_at, deed_at, freed_by, left_at, steps_left}
+use Rattle.art_change.specs.Writes.{SameRow, StageFits, asks_at, deed_at, freed_by, left_at, steps_left}
 use Rattle.art_change.specs.declared.writes.Stage.{Stage as StageOf}
 use Rattle.art_epoch.specs.Limbo.{places_of}
-use Rattle.art_erase.proofs.ArtAttempt.Given.{plain_row}
-use Rattle.art_erase.specs.ArtAttempt.declared.rooms.Room.{Room}
-use Rattle.art_erase.specs.ArtFrame.Openings.{asks as opening_asks}
+use Rattle.art_attempt.proofs.Given.{plain_row}
+use Rattle.art_attempt.specs.declared.rooms.Room.{Room}
+use Rattle.art_frame.specs.Openings.{asks as opening_asks}
 
 pub open_on-requires-clause-told : goal.open_on-requires-clause-told
 open_on-requires-clause-told c =
@@ -120,4 +119,4 @@ pub returns-in-Opening-clause-key : goal.returns-in-Opening-clause-key
 returns-in-Opening-clause-key c =
     let m = c.args.self.now in
     let r = c.args.room.now in
-    subst (λ (s : Room). SameKey m.job r s) (sym c.open_on.ensures.hints) (given_key m.job (freed_by (opening_asks m.opening (places_of c.args.limbo.now))) r)
+    subst (λ (s : Room). SameRow r s) (sym c.open_on.ensures.hints) (given_key (freed_by (opening_asks m.opening (places_of c.args.limbo.now))) r)

@@ -9,8 +9,8 @@ returns-then-is_free-clause-left c qs = let few = c.close.ensures.left qs in ome
 
 pub returns-then-is_free-clause-fits : goal.returns-then-is_free-clause-fits
 returns-then-is_free-clause-fits c z u v ps qs room t =
-    let so = c.is_free.ensures.free c.if-is_free.true t.going z t.began v c.args.self.now.job c.args.room.now t.fits in
-    c.close.ensures.fits z u t.opened t.began v ps qs room t.frame t.begun (so, c.if-self-eq0.true) t.counted
+    let so = c.is_free.ensures.free c.if-is_free.true t.going z t.began v c.args.room.now t.fits in
+    c.close.ensures.fits z u t.opened t.began v ps qs room t.frame t.begun (record { job = t.job; fits = (so, c.if-self-eq0.true) }) t.counted
 
 pub returns-else-is_free-clause-left : goal.returns-else-is_free-clause-left
 returns-else-is_free-clause-left c qs =

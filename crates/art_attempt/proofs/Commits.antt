@@ -1,0 +1,160 @@
+-- The change is planned, and made or given up.
+use Rattle.std.proofs.Common.{◌≡◌, ℕ, List, false, Option, Some, None, refl, sym, ap, ◌∙◌, subst, arith}
+use Rattle.std.specs.Prelude.{Ok, Err, Result, ⊤}
+use Rattle.std.specs.Option.{option_map}
+use Rattle.arrayvec.specs.ArrayVec.{ArrayVec}
+use Rattle.art_attempt.proofs.Chosen.{goes_later, goes_since, leaf_effects, leaf_way}
+use Rattle.art_attempt.proofs.Tries.{event_since, limbo_committed, rest_committed, still_fails, still_later, stock_fails}
+use Rattle.art_attempt.specs.Attempts.{EndFits, EndsSo, GoesBy, HasMade, HasWritten, IsChecked, MayMake, given_up}
+use Rattle.art_attempt.specs.Cases.{HasLeaf, IsCaseOf, IsLockedBy, IsTold, leaves_by, locks_of, made_by}
+use Rattle.art_attempt.specs.Rooms.{spent_by}
+use Rattle.art_attempt.specs.Trying.{StoodAtCheck}
+use Rattle.art_attempt.specs.declared.attempts.Attempt.{Attempt}
+use Rattle.art_attempt.specs.declared.attempts.Job.{Job}
+use Rattle.art_attempt.specs.declared.attempts.Job.TheVariants.{Insert, Remove}
+use Rattle.art_attempt.specs.declared.cases.Case.{Case}
+use Rattle.art_attempt.specs.declared.rooms.Room.{Room}
+use Rattle.art_cell.specs.declared.cells.Link.TheVariants.{Node as node}
+use Rattle.art_cell.specs.declared.cells.Node.{Node}
+use Rattle.art_frame.proofs.Stocked.{linked_are_in, stock_commits}
+use Rattle.art_frame.specs.Stocks.{IsIn}
+use Rattle.art_machine.specs.declared.actions.Effects.{Effects}
+use Rattle.art_make.proofs.Told.{ends_as}
+use Rattle.art_make.specs.Apply as apply
+use Rattle.art_make.specs.Apply.{HasFailed, IsOver, KeepsCheck}
+use Rattle.art_make.specs.declared.apply.Apply.{Apply}
+use Rattle.art_model.specs.declared.commands.Answer.TheVariants as reply
+use Rattle.art_plan.specs.Changes.{IsPlanned, node_made, targets}
+use Rattle.art_plan.specs.ChooseInsert.Plans.{LocksOnly}
+use Rattle.art_plan.specs.Remove.Removals.{remove_effects}
+use Rattle.art_plan.specs.Whole.{twin_node}
+use Rattle.art_plan.specs.declared.changes.Twin.{Twin}
+use Rattle.art_plan.specs.declared.insert.leaves.NewLeaf.{NewLeaf as Row}
+use Rattle.art_plan.specs.declared.remove.leaves.OldLeaf.{OldLeaf}
+use Rattle.art_step.specs.Deeds.{IsAdmitted}
+use Rattle.art_step.specs.Events.{MakesEvent}
+use Rattle.art_step.specs.declared.deeds.Act.TheVariants as act
+use Rattle.art_step.specs.declared.deeds.Deed.{Deed}
+use Rattle.art_step.specs.declared.deeds.Deed.TheVariants.{Done}
+use Rattle.art_step.specs.declared.faults.UpgradeFault.{UpgradeFault}
+use Rattle.art_step.specs.declared.faults.UpgradeFault.TheVariants as fault
+use Rattle.art_step.specs.declared.views.Sizes.{Sizes}
+use Rattle.art_step.specs.declared.views.Stamp.{Stamp}
+use Rattle.art_step.specs.declared.views.View.{View}
+
+-- ---- a plan for a leaf that goes
+
+module _ (z : Sizes) (u : View) (m : Attempt) (r : Room) (v : View) (job : m.job ≡ Remove) (leaf : HasLeaf m.position r) (stood : StoodAtCheck z u r.row.key.items m.position r.read_set v) where
+  -- in this case
+  module _ (c : Case) (is : m.case ≡ c) (goes : IsCaseOf Remove c) (effects : r.change.effects ≡ remove_effects r.gone (leaves_by c m.position)) where
+    none_comes : (l : ℕ) → r.change.effects.leaf ≡ Some l → r.stock.leaf ≡ Some l
+    none_comes l at = let no : None ≡ Some l = sym (ap (λ (e : Effects). e.leaf) effects) ∙ at in cc
+
+    removes : r.change.effects.deed ≡ made_by m.job r.row r.gone
+    removes = ap (λ (e : Effects). e.deed) effects ∙ (ap (λ (k : ArrayVec ℕ). Done (act.Remove k) (reply.Removed r.gone.value)) leaf.key ∙ sym (ap (λ (j : Job). made_by j r.row r.gone) job))
+
+    pub leaf_may : IsPlanned z v r.change → IsTold z c m.position r.read_set r.gone u v → targets r.change ≡ locks_of c → LocksOnly (IsLockedBy c m.position m.lowering) r.change
+        → ((x : Stamp) → IsLockedBy c m.position m.lowering x → IsChecked z u c m.position r x v) → MayMake z u m r v
+    leaf_may planned told locks only each = record {
+      case = subst (λ (j : Job). IsCaseOf j m.case) (sym job) (subst (IsCaseOf Remove) (sym is) goes);
+      planned = planned;
+      leaf = none_comes;
+      deed = removes;
+      goes = subst (λ (d : Case). GoesBy z u m.position d r v) (sym is) (record {
+        told = leaf_way z u m.position r v c goes (record { leaf = leaf; stood = stood; told = told; locks = locks });
+        effects = effects ∙ sym (leaf_effects z u m.position r v c goes);
+      });
+      locks = record {
+        only = subst (λ (d : Case). LocksOnly (IsLockedBy d m.position m.lowering) r.change) (sym is) only;
+        each = subst (λ (d : Case). (x : Stamp) → IsLockedBy d m.position m.lowering x → IsChecked z u d m.position r x v) (sym is) each;
+      };
+    }
+
+-- what is committed is of the row's key
+pub made_admitted : (A : List ℕ → Type 0) (j : Job) (row : Row) (gone : OldLeaf) → A row.key.items → IsAdmitted A (made_by j row gone)
+made_admitted A Insert row gone is = is
+made_admitted A Remove row gone is = is
+
+-- ---- it is made
+
+module _ (z : Sizes) (u : View) (m : Attempt) (r : Room) (v : View) (h : HasMade z u m r v) where
+  -- it goes on
+  pub made_on : (w : View) (next : Apply) → KeepsCheck v w → apply.Fits z r.change next h.early w → HasMade z u (record m { apply = next }) r w
+  made_on w next keeps fits =
+      let before = h.later.steps in
+      let failed = h.later.failures in
+      let more = keeps.steps in
+      let again = keeps.failures in
+      record {
+        early = h.early;
+        base = h.base;
+        later = record { steps = omega (arith, before, more); failures = omega (arith, failed, again) };
+        spent = h.spent;
+        case = h.case;
+        locks = record { only = h.locks.only; each = h.locks.each };
+        goes = goes_later z u m.position m.case r v w keeps h.goes;
+        has = h.has;
+        plain = h.plain;
+        leaf = h.leaf;
+        deed = h.deed;
+        fits = fits;
+      }
+
+  module _ (made : Result ⊤ UpgradeFault) (is : apply.ended_at m.apply ≡ Some made) where
+    over : IsOver h.early r.change made v
+    over = (ends_as z h.early v r.change m.apply made h.fits is).0
+
+    -- it is made
+    pub change_written : made ≡ Ok tt → HasWritten z u m.job m.position m.case (record r { stock = spent_by r.change r.stock }) v
+    change_written ok =
+        let done = over.done tt ok in
+        let nodes : (n : Node) → node_made r.change ≡ Some n → IsIn r.stock (node n) =
+        λ n at. let hand = (h.fits.planned.new false n at).hand in subst (IsIn r.stock) hand.2 (h.has.only hand.0 hand.1) in
+        record {
+          case = h.case;
+          event = event_since u h.early h.base v (made_by m.job r.row r.gone) (subst (λ (d : Deed). MakesEvent h.early v d) h.deed done.event);
+          goes = goes_since z u m.position u (record r { stock = spent_by r.change r.stock }) r.stock v v (omega arith) (omega arith) (λ x there. there) refl m.case h.goes;
+          pins = done.pins;
+          limbo = limbo_committed u h.early h.base v r.change done over.free;
+          once = done.once;
+          rest = rest_committed u h.early h.base v r.change done over.free;
+          free = over.free;
+          later = still_later u h.early h.base v h.later;
+          has = stock_commits z r.row.key.items r.row.value h.early v r.change r.stock done (linked_are_in r.change r.stock (ap (λ (o : Option Twin). option_map twin_node o) h.plain) h.leaf nodes) h.has;
+        }
+
+    -- it was given up
+    pub change_given_up : (e : UpgradeFault) → made ≡ Err e → EndFits z u m r (given_up e) v
+    change_given_up e err = by_fault e (over.failed e err)
+      where
+        so : (f : UpgradeFault) → HasFailed h.early r.change f v → EndsSo z u r v
+        so f failed = record {
+          still = still_fails u h.early h.base v h.later r.change f failed over.free;
+          spent = λ limited.
+              let spent = h.spent limited in
+              let steps = (ends_as z h.early v r.change m.apply made h.fits is).1 in
+              let more = h.later.failures in
+              omega (arith, spent, steps, more);
+          has = stock_fails z r.row.key.items r.row.value h.early v r.stock r.change f failed h.has;
+        }
+
+        by_fault : (f : UpgradeFault) → HasFailed h.early r.change f v → EndFits z u m r (given_up f) v
+        by_fault (fault.Changed c) failed =
+            let more = failed.fails.3 in
+            let before = h.base.later.failures in
+            (so (fault.Changed c) failed, omega (arith, more, before))
+        by_fault (fault.Exhausted c) failed =
+            let locked = h.locks.only failed.index failed.target failed.is in (
+              so (fault.Exhausted c) failed,
+              record {
+                early = h.early;
+                base = h.base;
+                later = h.later;
+                case = h.case;
+                deed = h.deed;
+                goes = h.goes;
+                failed = failed;
+                locked = locked;
+                checked = h.locks.each failed.target.stamp locked;
+              },
+            )

@@ -1,0 +1,104 @@
+-- Numbers come into the hand, or one is not found.
+use Rattle.std.proofs.Common.{◌≡◌, Some, inr, refl, sym, ap, ◌∙◌, subst, arith}
+use Rattle.std.proofs.lemmas.Option.{same_Some}
+use Rattle.art_attempt.proofs.Chosen.{case_comes, comes_insert, no_smaller}
+use Rattle.art_attempt.proofs.LastCheck.{check_stays, stood_stays}
+use Rattle.art_attempt.proofs.Spent.{few_looks}
+use Rattle.art_attempt.proofs.Tries.{standing_takes, still_takes}
+use Rattle.art_attempt.specs.Attempts.{EndsWithin, HasSupplies, IsFull, IsKnown, WantsNumbers}
+use Rattle.art_attempt.specs.Cases.{ComesThere, IsCaseOf, demand_of}
+use Rattle.art_attempt.specs.Trying.{IsLater}
+use Rattle.art_attempt.specs.declared.attempts.Attempt.{Attempt}
+use Rattle.art_attempt.specs.declared.attempts.Job.TheVariants.{Insert, Remove}
+use Rattle.art_attempt.specs.declared.cases.Case.{Case}
+use Rattle.art_attempt.specs.declared.cases.Case.TheVariants.{NewLeaf, DropLeaf, Shrink, MergeLeaf, MergeNode, Torn}
+use Rattle.art_attempt.specs.declared.rooms.Room.{Room}
+use Rattle.art_cell.specs.declared.layouts.Pool.{Pool}
+use Rattle.art_find.specs.Findings.{IsStanding}
+use Rattle.art_gather.specs.Reserve as reserve
+use Rattle.art_gather.specs.Reserve.{HasAll, HasNone}
+use Rattle.art_gather.specs.declared.reserve.Reserved.{Reserved}
+use Rattle.art_gather.specs.declared.reserve.Reserved.TheVariants.{Ready, Full}
+use Rattle.art_gather.specs.declared.reserve.Reserve.{Reserve}
+use Rattle.art_gather.specs.declared.reserve.Reserve.TheVariants as supplies
+use Rattle.art_step.specs.declared.views.LastCheck.{LastCheck}
+use Rattle.art_step.specs.declared.views.Sizes.{Sizes}
+use Rattle.art_step.specs.declared.views.View.{View}
+
+pub reserved_at : (m : Reserve) (e : Reserved) → reserve.ended_at m ≡ Some e → m ≡ supplies.Ended e
+reserved_at (supplies.Ended r) e is = ap supplies.Ended (same_Some {A = Reserved} r e is)
+reserved_at (supplies.Leaf t) e is = cc
+reserved_at (supplies.LeafWriter t) e is = cc
+reserved_at (supplies.Node t) e is = cc
+
+module _ (z : Sizes) (u : View) (m : Attempt) (r : Room) (v : View) (h : HasSupplies z u m r v) where
+  abbrev Stage : Reserve → Type 0
+  Stage s = reserve.StageFits z (demand_of z m.case m.position.verdict) r.row.key.items r.row.value s r.stock h.early v
+
+  supplies_later : IsLater h.early v
+  supplies_later = record { steps = h.fits.only.later; failures = h.fits.only.failures }
+
+  -- with the numbers few steps were made
+  pub supplies_so : EndsWithin z u 21700 r v
+  supplies_so = record {
+    still = still_takes u h.early h.base v supplies_later h.fits.only.only;
+    spent = λ limited.
+        let spent = h.spent limited in
+        let counted = h.fits.counted in
+        let few = few_looks z (demand_of z m.case m.position.verdict) limited in
+        omega (arith, spent, counted, few);
+    has = h.fits.only.has;
+  }
+
+  pub supplies_standing : IsStanding z r.row.key.items m.position r.read_set v
+  supplies_standing = standing_takes z r.row.key.items m.position r.read_set h.early v h.fits.only.only h.standing
+
+  comes_early : m.case ≡ NewLeaf → ComesThere z u m.position r h.early
+  comes_early is = subst (λ (c : Case). WantsNumbers z u c m.position r h.early) is h.wants
+
+  -- no number of the pool was found for a leaf that comes
+  pub supplies_full : m.job ≡ Insert → (pool : Pool) → reserve.ended_at m.reserve ≡ Some (Full pool) → IsFull z u m.position r pool v
+  supplies_full job pool is =
+      let new = case_comes m.job m.case job h.case in
+      let wants = comes_early new in
+      let none : HasNone z (demand_of z NewLeaf m.position.verdict) pool h.early v =
+      subst (λ (c : Case). HasNone z (demand_of z c m.position.verdict) pool h.early v) new (subst Stage (reserved_at m.reserve (Full pool) is) h.fits.stage) in
+      let same = ap (λ (t : View). t.checked) h.fits.only.only in
+      let step = ap (λ (c : LastCheck). c.step) same in
+      let done = wants.stood.done in
+      let began = h.base.later.steps in
+      let since = none.after in
+      record {
+        stood = stood_stays h.early v same z u u r.row.key.items m.position r.read_set (omega arith) h.fits.only.later wants.stood;
+        checked = check_stays h.early v same m.position.stamp h.fits.only.found wants.checked;
+        comes = wants.comes;
+        none = record { wanted = none.wanted; since = none.since; after = omega (arith, began, since); none = none.none };
+        after = omega (arith, step, done, since);
+      }
+
+  supplies_all : reserve.ended_at m.reserve ≡ Some Ready → HasAll (demand_of z m.case m.position.verdict) r.stock
+  supplies_all is = subst Stage (reserved_at m.reserve Ready is) h.fits.stage
+
+  -- all is in hand
+  pub supplies_known : reserve.ended_at m.reserve ≡ Some Ready → IsKnown z u m.case m.position r v
+  supplies_known is = by m.case (supplies_all is) h.wants
+    where
+      by : (c : Case) → HasAll (demand_of z c m.position.verdict) r.stock → WantsNumbers z u c m.position r h.early → IsKnown z u c m.position r v
+      by NewLeaf all wants = (wants.comes, all)
+      by DropLeaf all wants = absurd wants
+      by (Shrink layout) all wants = (wants.0, (wants.1, all.node layout refl))
+      by (MergeLeaf other) all wants = absurd wants
+      by (MergeNode byte n) all wants = absurd wants
+      by Torn all wants = absurd wants
+
+  -- no smaller node was found: the leaf goes alone
+  pub supplies_alone : m.job ≡ Remove → (pool : Pool) → reserve.ended_at m.reserve ≡ Some (Full pool) → IsKnown z u DropLeaf m.position r v
+  supplies_alone job pool is = by m.case h.case h.wants (subst Stage (reserved_at m.reserve (Full pool) is) h.fits.stage)
+    where
+      by : (c : Case) → IsCaseOf m.job c → WantsNumbers z u c m.position r h.early → HasNone z (demand_of z c m.position.verdict) pool h.early v → IsKnown z u DropLeaf m.position r v
+      by NewLeaf of wants none = let no : Insert ≡ Remove = sym (comes_insert m.job NewLeaf refl of) ∙ job in absurd (cc)
+      by DropLeaf of wants none = absurd wants
+      by (Shrink layout) of wants none = (wants.0, inr (no_smaller z m.position layout r.read_set u h.early v pool wants.1 h.base none))
+      by (MergeLeaf other) of wants none = absurd wants
+      by (MergeNode byte n) of wants none = absurd wants
+      by Torn of wants none = absurd wants

@@ -1,0 +1,35 @@
+-- What an attempt that fits knows at the stage where it stands; what stays of an attempt stays on.
+use Rattle.std.proofs.Common.{◌≡◌, ◌∙◌, subst}
+use Rattle.art_attempt.specs.declared.rooms.Room.{Room}
+use Rattle.art_attempt.specs.Attempts.{Fits, HasLower, HasMade, HasSupplies, HasVouched, IsFinding, IsSameTry, StageFits}
+use Rattle.art_attempt.specs.declared.attempts.Attempt.{Attempt}
+use Rattle.art_attempt.specs.declared.attempts.Stage.{Stage}
+use Rattle.art_attempt.specs.declared.attempts.Stage.TheVariants as stage
+use Rattle.art_find.specs.declared.rereadings.Rereading.{Rereading}
+use Rattle.art_step.specs.declared.views.Sizes.{Sizes}
+use Rattle.art_step.specs.declared.views.View.{View}
+
+pub same_on : (l m n : Attempt) (r s t : Room) → IsSameTry l m r s → IsSameTry m n s t → IsSameTry l n r t
+same_on l m n r s t a b = record { job = b.job ∙ a.job; key = b.key ∙ a.key; value = b.value ∙ a.value }
+
+module _ (z : Sizes) (u : View) (m : Attempt) (r : Room) (v : View) where
+  pub at_stage : (s : Stage) → m.stage ≡ s → Fits z u m r v → StageFits z u s m r v
+  at_stage s is fits = subst (λ (s : Stage). StageFits z u s m r v) is fits.stage
+
+  pub is_finding : m.stage ≡ stage.Finding → Fits z u m r v → IsFinding z u m r v
+  is_finding is fits = at_stage stage.Finding is fits
+
+  pub has_supplies : m.stage ≡ stage.Reserve → Fits z u m r v → HasSupplies z u m r v
+  has_supplies is fits = (at_stage stage.Reserve is fits).0
+
+  pub reads_on : (q : Rereading) → m.stage ≡ stage.Reading q → Fits z u m r v → StageFits z u (stage.Reading q) m r v
+  reads_on q is fits = at_stage (stage.Reading q) is fits
+
+  pub has_vouched : m.stage ≡ stage.Vouching → Fits z u m r v → HasVouched z u m r v
+  has_vouched is fits = (at_stage stage.Vouching is fits).0
+
+  pub has_lower : m.stage ≡ stage.Lowering → Fits z u m r v → HasLower z u m r v
+  has_lower is fits = (at_stage stage.Lowering is fits).0
+
+  pub has_made : m.stage ≡ stage.Apply → Fits z u m r v → HasMade z u m r v
+  has_made is fits = (at_stage stage.Apply is fits).0

@@ -1,0 +1,28 @@
+use Rattle.std.proofs.Common.{sym, subst, arith}
+use Rattle.art_attempt.proofs.Finds.{within_so}
+use Rattle.art_attempt.proofs.Numbers.{supplies_alone, supplies_full, supplies_so, supplies_standing}
+use Rattle.art_attempt.proofs.attempts.Attempt.lack.Goals as goal
+use Rattle.art_attempt.specs.Cases.{IsCaseOf}
+use Rattle.art_attempt.specs.declared.attempts.Job.{Job}
+use Rattle.art_attempt.specs.declared.cases.Case.TheVariants.{DropLeaf}
+
+pub returns-in-Insert-clause-fits : goal.returns-in-Insert-clause-fits
+returns-in-Insert-clause-fits c z u v room h full =
+    let m = c.args.self.now in
+    let r = c.args.room.now in
+    let f = supplies_full z u m r v h c.in-Insert.is c.args.pool full in
+    record {
+      room = room;
+      stage = (
+        c.in-Insert.is,
+        within_so z u 21700 r v (omega arith) (supplies_so z u m r v h),
+        f,
+      );
+    }
+
+pub returns-in-Remove-clause-fits : goal.returns-in-Remove-clause-fits
+returns-in-Remove-clause-fits c z u v room h full =
+    let m = c.args.self.now in
+    let r = c.args.room.now in
+    c.vouch.ensures.fits z u v room (supplies_so z u m r v h) (subst (λ (j : Job). IsCaseOf j DropLeaf) (sym c.in-Remove.is) tt) (supplies_standing z u m r v h)
+    (supplies_alone z u m r v h c.in-Remove.is c.args.pool full)

@@ -1,0 +1,49 @@
+use Rattle.std.proofs.Common.{◌∙◌, ap, sym, subst}
+use Rattle.art_attempt.proofs.Cells.{leaf_ready, node_ready, seen_new, vouched_each, vouched_so, vouched_standing}
+use Rattle.art_attempt.proofs.Chosen.{comes_insert}
+use Rattle.art_attempt.proofs.attempts.Attempt.plan_new.Goals as goal
+use Rattle.art_attempt.specs.Attempts.{GoesBy, IsChecked, IsKnown}
+use Rattle.art_attempt.specs.Cases.{IsLockedBy, made_by}
+use Rattle.art_attempt.specs.Rooms.{number_for}
+use Rattle.art_attempt.specs.declared.attempts.Job.{Job}
+use Rattle.art_attempt.specs.declared.cases.Case.{Case as CaseOf}
+use Rattle.art_attempt.specs.declared.cases.Case.TheVariants.{NewLeaf}
+use Rattle.art_attempt.specs.declared.rooms.Room.{Room}
+use Rattle.art_machine.specs.declared.actions.Effects.{Effects}
+use Rattle.art_plan.specs.ChooseInsert.Plans.{HasNeeded, LocksOnly}
+use Rattle.art_plan.specs.declared.choose_insert.needs.Needs.{Needs}
+use Rattle.art_step.specs.declared.views.Stamp.{Stamp}
+
+pub plan_insert-requires-clause-seen : goal.plan_insert-requires-clause-seen
+plan_insert-requires-clause-seen c =
+    let q = c.requires.vouched in
+    (q.0, seen_new q.0 q.1 c.args.self.now c.args.room.now q.2 q.4 q.5 c.requires.case)
+
+pub returns-clause-fits : goal.returns-clause-fits
+returns-clause-fits c z u v room h is =
+    let m = c.args.self.now in
+    let r = c.args.room.now in
+    let t = m.position in
+    let so = vouched_so z u m r v h is in
+    let plan = c.plan_insert.ensures in
+    let case = c.requires.case in
+    let known = subst (λ (d : CaseOf). IsKnown z u d t r v) case h.known in
+    let at = sym c.leaf.ensures ∙ c.in-Some.is in
+    let number = c.number_for-made.ensures ∙ ap (λ (n : Needs). number_for r.stock n.node) c.needed.ensures in
+    let needed : HasNeeded z v t.verdict c.number_for-made.result = subst (HasNeeded z v t.verdict) (sym number) (node_ready z v r t so.has known.1) in
+    let then : Room = record r {
+      row = record r.row { number = c.in-Some.leaf };
+      bodies = c.plan_insert.new.bodies;
+      change = c.plan_insert.new.change;
+    } in
+    c.begin.ensures.fits z u v (record { sizes = room.sizes; key = room.key }) (record { still = so.still; spent = so.spent; has = so.has }) (record {
+      case = h.case;
+      planned = plan.planned z v (seen_new z u m r v h is case) (vouched_standing z u m r v h is) (leaf_ready z v r t so.has known.1 room.key c.in-Some.leaf at) needed;
+      leaf = λ l comes. at ∙ (sym (ap (λ (e : Effects). e.leaf) plan.effects) ∙ comes);
+      deed = ap (λ (e : Effects). e.deed) plan.effects ∙ sym (ap (λ (j : Job). made_by j then.row then.gone) (comes_insert m.job m.case case h.case));
+      goes = subst (λ (d : CaseOf). GoesBy z u t d then v) (sym case) (record { told = tt; effects = plan.effects });
+      locks = record {
+        only = subst (λ (d : CaseOf). LocksOnly (IsLockedBy d t m.lowering) then.change) (sym case) plan.locks;
+        each = subst (λ (d : CaseOf). (x : Stamp) → IsLockedBy d t m.lowering x → IsChecked z u d t then x v) (sym case) (vouched_each z u m r v h is NewLeaf case tt);
+      };
+    })

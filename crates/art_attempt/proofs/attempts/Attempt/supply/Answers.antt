@@ -1,0 +1,37 @@
+use Rattle.std.proofs.Common.{◌≡◌, ◌∙◌, ap, sym, subst}
+use Rattle.art_attempt.proofs.Chosen.{wants_same}
+use Rattle.art_attempt.proofs.attempts.Attempt.supply.Goals as goal
+use Rattle.art_attempt.specs.Cases.{demand_of}
+use Rattle.art_frame.specs.Stocks.{HasStock}
+use Rattle.art_gather.specs.Reserve.{Fits as SupplyFits}
+use Rattle.art_gather.specs.declared.reserve.Demand.{Demand}
+use Rattle.art_step.specs.declared.views.Sizes.{Sizes as SizesOf}
+
+pub new-self-requires : goal.new-self-requires
+new-self-requires c =
+    let q = c.requires in
+    let r = c.args.room.now in
+    let k = r.row.key.items in
+    let value = r.row.value in
+    let found = c.args.self.now.position.verdict in
+    let same : c.demand-demand.result ≡ demand_of q.0 c.args.case found = c.demand-demand.ensures ∙ ap (λ (y : SizesOf). demand_of y c.args.case found) q.3.sizes in
+    (k, value, q.2, subst (λ (x : Demand). HasStock x.sizes k value q.2 r.stock) (sym same) q.4.has)
+
+pub returns-clause-fits : goal.returns-clause-fits
+returns-clause-fits c z u v room so of standing wants =
+    let m = c.args.self.now in
+    let r = c.args.room.now in
+    let k = r.row.key.items in
+    let value = r.row.value in
+    let found = m.position.verdict in
+    let same : c.demand-demand.result ≡ demand_of z c.args.case found = c.demand-demand.ensures ∙ ap (λ (y : SizesOf). demand_of y c.args.case found) room.sizes in
+    let fits = c.new-self.ensures.fits k value v (subst (λ (x : Demand). HasStock x.sizes k value v r.stock) (sym same) so.has) in
+    c.supply_on.ensures.fits z u v (record { sizes = room.sizes; key = room.key }) (record {
+      early = v;
+      base = so.still;
+      spent = so.spent;
+      case = of;
+      standing = standing;
+      wants = wants_same z u m.position r v c.args.case c.new-self.new.stock wants;
+      fits = subst (λ (x : Demand). SupplyFits x.sizes x k value c.new-self.result c.new-self.new.stock v v) same fits;
+    })

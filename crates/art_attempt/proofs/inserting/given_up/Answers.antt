@@ -1,4 +1,0 @@
-use Rattle.art_attempt.proofs.inserting.given_up.Goals as goal
-
-pub returns-in-Changed : goal.returns-in-Changed
-returns-in-Changed c = rw c.in-Changed.is

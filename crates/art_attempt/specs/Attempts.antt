@@ -1,0 +1,487 @@
+-- What an attempt of a write asks, and what it knows between two of its steps.
+use Rattle.std.specs.Prelude.{◌≡◌, ◌⊎◌, ℕ, ◌-◌, ◌<◌, ◌≤◌, ◌+◌, ◌++◌, List, [], Option, Some, None, Bool, true, false, ◌==◌, if◌then◌else◌}
+use Rattle.std.specs.Option.{unwrap_or}
+use Rattle.std.specs.Prelude.{Result, Ok, Err, ⊤}
+use Rattle.art_attempt.specs.Cases.{IsCaseOf, IsChosen, IsLockedBy, LeavesOther, both_of, demand_of, effects_of, made_by}
+use Rattle.art_attempt.specs.Cases.{ComesThere, HasLeaf, IsWay}
+use Rattle.art_attempt.specs.Trying.{HasChecked, HasSpent, IsCheckOf, IsKey, IsLater, StillTries, StoodAtCheck}
+use Rattle.art_attempt.specs.declared.attempts.Attempt.{Attempt}
+use Rattle.art_attempt.specs.declared.attempts.Ending.{Ending}
+use Rattle.art_attempt.specs.declared.attempts.Ending.TheVariants.{New, Present, Gone, Absent, Full, Exhausted, Overlaps, Restart}
+use Rattle.art_attempt.specs.declared.attempts.Job.{Job}
+use Rattle.art_attempt.specs.declared.attempts.Job.TheVariants.{Insert, Remove}
+use Rattle.art_attempt.specs.declared.attempts.Stage.{Stage}
+use Rattle.art_attempt.specs.declared.attempts.Stage.TheVariants as stage
+use Rattle.art_attempt.specs.declared.cases.Case.{Case}
+use Rattle.art_attempt.specs.declared.cases.Case.TheVariants.{NewLeaf, Shrink, MergeNode}
+use Rattle.art_attempt.specs.declared.rooms.Room.{Room}
+use Rattle.art_cell.specs.declared.cells.Cell.{Cell as CellOf}
+use Rattle.art_cell.specs.declared.cells.Cell.TheVariants as cell
+use Rattle.art_cell.specs.declared.Link.TheVariants.{Node as node}
+use Rattle.art_cell.specs.declared.Node.{Node as NodeOf}
+use Rattle.art_cell.specs.declared.layouts.Pool.{Pool}
+use Rattle.art_find.specs.Descents as descents
+use Rattle.art_find.specs.Findings.{FindingFits, IsStanding, position_at}
+use Rattle.art_find.specs.ReadSets.{node_of}
+use Rattle.art_find.specs.Rereadings.{RereadingFits, reads_next}
+use Rattle.art_find.specs.Verdicts.{value_of}
+use Rattle.art_find.specs.declared.findings.Finding.{Finding}
+use Rattle.art_find.specs.declared.findings.Position.{Position}
+use Rattle.art_find.specs.declared.read_sets.ReadSet.{ReadSet}
+use Rattle.art_find.specs.declared.rereadings.Rereading.{Rereading}
+use Rattle.art_find.specs.declared.verdicts.Verdict.{Verdict}
+use Rattle.art_find.specs.declared.verdicts.Verdict.TheVariants as verdict
+use Rattle.art_frame.specs.Stocks.{HasStock}
+use Rattle.art_gather.specs.Lowering as lowering
+use Rattle.art_gather.specs.Lowering.{CheckedBelow}
+use Rattle.art_gather.specs.Reserve as reserve
+use Rattle.art_gather.specs.Reserve.{HasAll, HasNone}
+use Rattle.art_gather.specs.Vouching as vouching
+use Rattle.art_gather.specs.Vouching.{IsVouching}
+use Rattle.art_gather.specs.declared.lowering.Lowering.{Lowering}
+use Rattle.art_machine.specs.Acting.{goes_on, passed}
+use Rattle.art_machine.specs.declared.actions.Action.{Action}
+use Rattle.art_machine.specs.declared.actions.Action.TheVariants.{Check, Settle}
+use Rattle.art_machine.specs.declared.actions.Answer.{Answer}
+use Rattle.art_make.specs.Apply as apply
+use Rattle.art_make.specs.Apply.{HasFailed, fault_of, is_begun, most_steps}
+use Rattle.art_make.specs.declared.apply.Apply.{Apply}
+use Rattle.art_model.specs.declared.commands.Answer.TheVariants as reply
+use Rattle.art_plan.specs.Changes.{IsPlanned, unlinked}
+use Rattle.art_plan.specs.ChooseInsert.Plans.{Comes, LocksOnly}
+use Rattle.art_plan.specs.ChooseRemove.Losses.{loss_at}
+use Rattle.art_plan.specs.declared.choose_remove.losses.Loss.TheVariants as loss
+use Rattle.art_plan.specs.declared.insert.leaves.NewLeaf.{NewLeaf as Row}
+use Rattle.art_step.specs.Events.{MakesEvent}
+use Rattle.art_step.specs.Shows.{rest_of}
+use Rattle.art_step.specs.Steps.Check as check
+use Rattle.art_step.specs.Steps.Commit.{all_retired}
+use Rattle.art_step.specs.Views.{IsOnce, links_in_limbo, size_of}
+use Rattle.art_step.specs.declared.deeds.Act.TheVariants as act
+use Rattle.art_step.specs.declared.deeds.Deed.{Deed}
+use Rattle.art_step.specs.declared.deeds.Deed.TheVariants.{Done}
+use Rattle.art_step.specs.declared.faults.Changed.{Changed}
+use Rattle.art_step.specs.declared.faults.UpgradeFault.{UpgradeFault}
+use Rattle.art_step.specs.declared.faults.UpgradeFault.TheVariants as fault
+use Rattle.art_step.specs.declared.views.Pin.{Pin}
+use Rattle.art_step.specs.declared.views.Sizes.{Sizes}
+use Rattle.art_step.specs.declared.views.Stamp.{Stamp}
+use Rattle.art_step.specs.declared.views.View.{View}
+
+-- ---- what it asks
+
+-- the check of the place settles the answer: a row is there that was to come, or none is that was to go
+abbrev pub settles : Job → Verdict → Bool
+settles Insert (verdict.Found l value) = true
+settles Insert found = false
+settles Remove (verdict.Found l value) = false
+settles Remove found = true
+
+-- such a check tells it; of any other place a check tells nothing
+abbrev pub check_as : Bool → Stamp → Action
+check_as true x = Settle x
+check_as false x = Check x
+
+abbrev pub check_of : Job → Position → Action
+check_of j t = check_as (settles j t.verdict) t.stamp
+
+-- the check of the place, once there is one; until then what the descent asks
+abbrev pub asks_place : Job → Option Position → Option Action → Option Action
+asks_place j (Some t) o = Some (check_of j t)
+asks_place j None o = o
+
+abbrev pub finding_asks : Job → Finding → Option Action
+finding_asks j m = asks_place j (position_at m) (descents.asks m.descent.stage)
+
+abbrev pub supply_asks : Attempt → Room → Option Action
+supply_asks m r = reserve.asks r.row.key.items r.row.value r.stock m.reserve
+
+abbrev pub reading_asks : Attempt → Rereading → Option Action
+reading_asks m q = reads_next m.position.stamp q
+
+abbrev pub vouching_asks : Attempt → Option Action
+vouching_asks m = vouching.asks m.position m.vouching
+
+abbrev pub lower_asks : Attempt → Option Action
+lower_asks m = lowering.asks m.position m.lowering
+
+abbrev pub apply_asks : Attempt → Room → Option Action
+apply_asks m r = apply.asks r.change m.apply
+
+abbrev pub asks_at : Stage → Attempt → Room → Option Action
+asks_at stage.Finding m r = finding_asks m.job m.finding
+asks_at stage.Reserve m r = supply_asks m r
+asks_at (stage.Reading q) m r = reading_asks m q
+asks_at stage.Vouching m r = vouching_asks m
+asks_at stage.Lowering m r = lower_asks m
+asks_at stage.Apply m r = apply_asks m r
+asks_at (stage.Ended e) m r = None
+
+-- the next step
+abbrev pub asks : Attempt → Room → Option Action
+asks m r = asks_at m.stage m r
+
+abbrev pub ending_at : Stage → Option Ending
+ending_at (stage.Ended e) = Some e
+ending_at s = None
+
+-- how it ended, if it has
+abbrev pub ended_at : Attempt → Option Ending
+ended_at m = ending_at m.stage
+
+-- a position that says nothing, where none is known yet
+abbrev pub nowhere : Position
+nowhere = record { stamp = record { cell = cell.Anchor; version = 0; first = 0 }; depth = 0; above = None; verdict = verdict.Absent }
+
+-- ---- what it tells
+
+-- the key is there, with this value, and keeps it
+abbrev pub present : Row → ℕ → Deed
+present row stands = Done (act.Insert row.key row.value) (reply.Present stands)
+
+-- no row has the key
+abbrev pub absent : Row → Deed
+absent row = Done (act.Remove row.key) reply.Absent
+
+-- where the check of the place settles the answer, of a row whose key stands with this value or has none
+abbrev pub settled_by : Job → Row → ℕ → Deed
+settled_by Insert row stands = present row stands
+settled_by Remove row stands = absent row
+
+abbrev pub settled_of : Job → Row → Option ℕ → Deed
+settled_of j row o = settled_by j row (unwrap_or o 0)
+
+-- the value that was found, where the check of the place settles the answer
+abbrev pub value_found : Option Position → ℕ
+value_found (Some t) = unwrap_or (value_of t.verdict) 0
+value_found None = 0
+
+abbrev pub found_at : Attempt → ℕ
+found_at m = value_found (position_at m.finding)
+
+abbrev pub deed_at : Attempt → Room → Deed
+deed_at m r = settled_by m.job r.row (found_at m)
+
+-- how it ends at a place where no leaf may come
+abbrev pub entered_by : Verdict → Option Ending
+entered_by (verdict.Found l value) = Some (Present value)
+entered_by verdict.Overlaps = Some Overlaps
+entered_by found = None
+
+-- how it ends where the change was given up
+abbrev pub given_up : UpgradeFault → Ending
+given_up (fault.Changed e) = Restart
+given_up (fault.Exhausted c) = Exhausted c
+
+-- how it ends where the change was made, of a row that had this value
+abbrev pub written : Job → ℕ → Ending
+written Insert value = New
+written Remove value = Gone value
+
+-- how it ends by how its change did
+abbrev pub ended_so : Job → ℕ → Result ⊤ UpgradeFault → Ending
+ended_so j value (Ok done) = written j value
+ended_so j value (Err e) = given_up e
+
+-- ---- what it knows, of a pass that had the view u at the beginning
+
+-- just the numbers of the stock are in hand
+abbrev pub HasHand : Sizes → View → Room → Type 0
+HasHand z v r = HasStock z r.row.key.items r.row.value v r.stock
+
+-- but for steps, so many at most, what is in hand and what reading changes, the pass is as it was
+pub record EndsWithin (z : Sizes) (u : View) (n : ℕ) (r : Room) (v : View) : Type 0 where
+  pub still : StillTries u v
+  pub spent : HasSpent z u n v
+  pub has : HasHand z v r
+
+-- so an attempt ends, with few steps
+abbrev pub EndsSo : Sizes → View → Room → View → Type 0
+EndsSo z u r v = EndsWithin z u 22900 r v
+
+-- since the view u, and not after v, a check of the lower node succeeded, with the words as they are now
+pub record HasCheckedLower (z : Sizes) (u : View) (k : List ℕ) (t : Position) (read_set : ReadSet) (reads : List (Option ℕ)) (x : Stamp)
+    (v : View) : Type 0 where
+  pub early : View
+  pub base : StillTries u early
+  pub lower : NodeOf
+  pub checked : CheckedBelow z k t read_set lower early x reads v
+
+-- since the view u, and not after v, a check of the stamp succeeded, with the read set as it is now; of the third cell of a merge, with
+-- the words of that
+abbrev pub IsChecked : Sizes → View → Case → Position → Room → Stamp → View → Type 0
+IsChecked z u (MergeNode byte n) t r x v =
+    HasChecked z u r.row.key.items t r.read_set x v ⊎ HasCheckedLower z u r.row.key.items t r.read_set r.lower x v
+IsChecked z u c t r x v = HasChecked z u r.row.key.items t r.read_set x v
+
+-- the place is sought
+pub record IsFinding (z : Sizes) (u : View) (m : Attempt) (r : Room) (v : View) : Type 0 where
+  pub early : View
+  pub base : StillTries u early
+  pub later : IsLater early v
+  pub spent : HasSpent z u (descents.most_steps m.finding.descent.depth m.finding.descent.stage) v
+  pub has : HasHand z early r
+  pub fits : FindingFits z r.row.key.items (settled_of m.job r.row) m.finding r.read_set early v
+  pub going : descents.ended_at m.finding.descent.stage ≡ None
+  pub exact : descents.IsExact m.finding.descent.stage
+
+-- from the view v to the view w the place of the key was checked, which tells the answer or nothing
+abbrev pub told_as : Bool → Deed → Option Deed
+told_as true d = Some d
+told_as false d = None
+
+pub record WasPlaced (z : Sizes) (u : View) (m : Attempt) (r : Room) (v w : View) : Type 0 where
+  pub finding : IsFinding z u m r v
+  pub there : position_at m.finding ≡ Some m.position
+  pub checked : check.Unchanged z v w m.position.stamp (told_as (settles m.job m.position.verdict) (deed_at m r))
+  pub later : IsLater v w
+  pub step : w.steps ≤ v.steps + 1
+
+-- why numbers are wanted: a leaf may come, or a smaller node would do
+abbrev pub WantsNumbers : Sizes → View → Case → Position → Room → View → Type 0
+WantsNumbers z u NewLeaf t r v = ComesThere z u t r v
+WantsNumbers z u (Shrink layout) t r v = HasLeaf t r × (loss_at t r.read_set ≡ loss.Shrinks layout)
+WantsNumbers z u c t r v = ⊥
+
+-- numbers come into the hand, or all did, or one was not found
+pub record HasSupplies (z : Sizes) (u : View) (m : Attempt) (r : Room) (v : View) : Type 0 where
+  pub early : View
+  pub base : StillTries u early
+  pub spent : HasSpent z u 1203 early
+  pub case : IsCaseOf m.job m.case
+  pub standing : IsStanding z r.row.key.items m.position r.read_set early
+  pub wants : WantsNumbers z u m.case m.position r early
+  pub fits : reserve.Fits z (demand_of z m.case m.position.verdict) r.row.key.items r.row.value m.reserve r.stock early v
+
+-- at most so many steps were made, with one for each word of the node before this place
+abbrev pub reading_most : Rereading → ℕ
+reading_most q = 1467 - (266 - q.place)
+
+-- the words of the node are read, or all are known; it goes by those that were read
+pub record IsReadingOn (z : Sizes) (u : View) (m : Attempt) (q : Rereading) (r : Room) (v : View) : Type 0 where
+  pub early : View
+  pub base : StillTries u early
+  pub later : IsLater early v
+  pub spent : HasSpent z u (reading_most q) v
+  pub has : HasHand z early r
+  pub job : m.job ≡ Remove
+  pub leaf : HasLeaf m.position r
+  pub reads : IsVouching z r.row.key.items m.position r.read_set early v
+  pub merges : loss_at m.position r.read_set ≡ loss.Merges
+  pub fits : RereadingFits z v m.position.stamp q (node_of r.read_set)
+
+-- what was found when the case was chosen
+abbrev pub IsKnown : Sizes → View → Case → Position → Room → View → Type 0
+IsKnown z u NewLeaf t r v = Comes t.verdict × HasAll (demand_of z NewLeaf t.verdict) r.stock
+IsKnown z u c t r v = HasLeaf t r × IsChosen z c t r.read_set r.gone r.stock u v
+
+-- what is still to be read is read, and the cells are checked
+pub record HasVouched (z : Sizes) (u : View) (m : Attempt) (r : Room) (v : View) : Type 0 where
+  pub early : View
+  pub base : StillTries u early
+  pub later : IsLater early v
+  pub spent : HasSpent z u 21700 early
+  pub has : HasHand z early r
+  pub case : IsCaseOf m.job m.case
+  pub known : IsKnown z u m.case m.position r v
+  pub fits : vouching.Fits z r.row.key.items (both_of m.case m.position.verdict) m.position m.vouching r.read_set early v
+
+-- the same, with the lower node
+pub record HasLower (z : Sizes) (u : View) (m : Attempt) (r : Room) (v : View) : Type 0 where
+  pub early : View
+  pub base : StillTries u early
+  pub later : IsLater early v
+  pub spent : HasSpent z u 21700 early
+  pub has : HasHand z early r
+  pub job : m.job ≡ Remove
+  pub leaf : HasLeaf m.position r
+  pub byte : ℕ
+  pub lower : NodeOf
+  pub is : m.case ≡ MergeNode byte lower
+  pub leaves : LeavesOther z m.position r.read_set r.gone byte (node lower)
+  pub fits : lowering.Fits z r.row.key.items m.position lower m.lowering r.read_set r.lower early v
+
+-- the change is that of the case, which what was read and found tells; it unlinks what the case says, in that order
+pub record GoesBy (z : Sizes) (u : View) (t : Position) (c : Case) (r : Room) (v : View) : Type 0 where
+  pub told : IsWay z u c t r v
+  pub effects : r.change.effects ≡ effects_of c t r.row r.gone
+
+-- what the change locks in this case is known, and each cell that it locks was checked
+pub record HasLocks (z : Sizes) (u : View) (m : Attempt) (r : Room) (v : View) : Type 0 where
+  pub only : LocksOnly (IsLockedBy m.case m.position m.lowering) r.change
+  pub each : (x : Stamp) → IsLockedBy m.case m.position m.lowering x → IsChecked z u m.case m.position r x v
+
+-- the change of the room may be made, and is that of the case
+pub record MayMake (z : Sizes) (u : View) (m : Attempt) (r : Room) (v : View) : Type 0 where
+  pub case : IsCaseOf m.job m.case
+  pub planned : IsPlanned z v r.change
+  pub leaf : (l : ℕ) → r.change.effects.leaf ≡ Some l → r.stock.leaf ≡ Some l
+  pub deed : r.change.effects.deed ≡ made_by m.job r.row r.gone
+  pub goes : GoesBy z u m.position m.case r v
+  pub locks : HasLocks z u m r v
+
+-- the change is made
+pub record HasMade (z : Sizes) (u : View) (m : Attempt) (r : Room) (v : View) : Type 0 where
+  pub early : View
+  pub base : StillTries u early
+  pub later : IsLater early v
+  pub spent : HasSpent z u 22300 early
+  pub case : IsCaseOf m.job m.case
+  pub locks : HasLocks z u m r early
+  pub goes : GoesBy z u m.position m.case r v
+  pub has : HasHand z early r
+  pub plain : r.change.copy ≡ None
+  pub leaf : (l : ℕ) → r.change.effects.leaf ≡ Some l → r.stock.leaf ≡ Some l
+  pub deed : r.change.effects.deed ≡ made_by m.job r.row r.gone
+  pub fits : apply.Fits z r.change m.apply early v
+
+abbrev pub free_at : Stage → Apply → Bool
+free_at stage.Apply m = is_begun m
+free_at s m = true
+
+-- nothing is held
+abbrev pub is_free : Attempt → Bool
+is_free m = free_at m.stage m.apply
+
+-- ---- how many steps are left
+
+-- of one attempt after another, where so many turns are left: as many, and at most 580 after the last of them, while a cell is held
+abbrev pub tries_left : ℕ → ℕ
+tries_left left = if left == 0 then 0 else left + 581
+
+-- a counter at its end ends all attempts
+abbrev pub is_last : Option UpgradeFault → Bool
+is_last (Some (fault.Exhausted c)) = true
+is_last e = false
+
+-- of a making that holds a cell, after which none comes, or others may
+abbrev pub last_left : Apply → ℕ
+last_left m = 581 - most_steps m
+
+abbrev pub held_left : ℕ → Apply → ℕ
+held_left left m = if left == 0 then last_left m else if is_last (fault_of m) then last_left m else left + 581
+
+abbrev pub apply_left : ℕ → Apply → ℕ
+apply_left left m = if is_begun m then tries_left left else held_left left m
+
+abbrev pub ended_left : ℕ → Ending → ℕ
+ended_left left Restart = tries_left left
+ended_left left e = 0
+
+abbrev pub left_at : ℕ → Stage → Apply → ℕ
+left_at left stage.Apply m = apply_left left m
+left_at left (stage.Ended e) m = ended_left left e
+left_at left s m = tries_left left
+
+-- at most so many steps come, with those of the attempts that come after this one
+abbrev pub steps_left : ℕ → Attempt → ℕ
+steps_left left m = left_at left m.stage m.apply
+
+-- ---- how it ends
+
+-- the change was made: one event; what the change unlinked is in limbo, what it linked left the hand
+pub record HasWritten (z : Sizes) (u : View) (j : Job) (t : Position) (c : Case) (r : Room) (v : View) : Type 0 where
+  pub case : IsCaseOf j c
+  pub event : MakesEvent u v (made_by j r.row r.gone)
+  pub goes : GoesBy z u t c r v
+  pub pins : List Pin
+  pub limbo : v.limbo ≡ all_retired pins (unlinked r.change) ++ u.limbo
+  pub once : IsOnce (links_in_limbo v.limbo)
+  pub rest :
+      rest_of (record v { seen = u.seen; own = u.own; committed = u.committed; hand = u.hand; limbo = u.limbo }) ≡ rest_of u
+  pub free : v.held ≡ []
+  pub later : IsLater u v
+  pub has : HasHand z v r
+
+-- the check of the place told this: one event
+pub record HasSettled (z : Sizes) (u : View) (r : Room) (d : Deed) (v : View) : Type 0 where
+  pub event : MakesEvent u v d
+  pub rest : rest_of (record v { seen = u.seen; own = u.own; committed = u.committed; hand = u.hand }) ≡ rest_of u
+  pub free : v.held ≡ []
+  pub later : IsLater u v
+  pub has : HasHand z v r
+
+-- the last check was of the place of the key, where a leaf might come and a number of the pool is wanted; no free word gave one since
+pub record IsFull (z : Sizes) (u : View) (t : Position) (r : Room) (pool : Pool) (v : View) : Type 0 where
+  pub stood : StoodAtCheck z u r.row.key.items t r.read_set v
+  pub checked : IsCheckOf t.stamp v
+  pub comes : Comes t.verdict
+  pub none : HasNone z (demand_of z NewLeaf t.verdict) pool u v
+  pub after : v.checked.step ≤ none.since
+
+-- a cell that the change of the case locks, under a stamp that was checked in this attempt, has its counter at its end
+pub record IsExhausted (z : Sizes) (u : View) (j : Job) (t : Position) (c : Case) (l : Lowering) (r : Room) (x : CellOf) (v : View)
+    : Type 0 where
+  pub early : View
+  pub base : StillTries u early
+  pub later : IsLater early v
+  pub case : IsCaseOf j c
+  pub deed : r.change.effects.deed ≡ made_by j r.row r.gone
+  pub goes : GoesBy z u t c r v
+  pub failed : HasFailed early r.change (fault.Exhausted x) v
+  pub locked : IsLockedBy c t l failed.target.stamp
+  pub checked : IsChecked z u c t r failed.target.stamp early
+
+-- the last check was of the place of the key, where by what the pass then knew a key begins this one, or this one begins it
+pub record IsOverlap (z : Sizes) (u : View) (t : Position) (r : Room) (v : View) : Type 0 where
+  pub stood : StoodAtCheck z u r.row.key.items t r.read_set v
+  pub checked : IsCheckOf t.stamp v
+  pub overlaps : t.verdict ≡ verdict.Overlaps
+
+-- of a write that does this at this place, in this case
+abbrev pub EndsBy : Sizes → View → Job → Position → Case → Lowering → Room → Ending → View → Type 0
+EndsBy z u j t c l r New v = (j ≡ Insert) × HasWritten z u j t c r v
+EndsBy z u j t c l r (Present stands) v = (j ≡ Insert) × HasSettled z u r (present r.row stands) v
+EndsBy z u j t c l r (Gone value) v = (j ≡ Remove) × HasWritten z u j t c r v × (r.gone.value ≡ value)
+EndsBy z u j t c l r Absent v = (j ≡ Remove) × HasSettled z u r (absent r.row) v
+EndsBy z u j t c l r (Full pool) v = (j ≡ Insert) × EndsSo z u r v × IsFull z u t r pool v
+EndsBy z u j t c l r (Exhausted x) v = EndsSo z u r v × IsExhausted z u j t c l r x v
+EndsBy z u j t c l r Overlaps v = (j ≡ Insert) × EndsSo z u r v × IsOverlap z u t r v
+EndsBy z u j t c l r Restart v = EndsSo z u r v × (u.failures < v.failures)
+
+abbrev pub EndFits : Sizes → View → Attempt → Room → Ending → View → Type 0
+EndFits z u m r e v = EndsBy z u m.job m.position m.case m.lowering r e v
+
+-- ---- why it is tried anew
+
+-- a version word was locked, obsolete or changed: the last answer said so, or of the cells of the change one was changed
+abbrev pub IsRestartBy : Stage → Apply → Answer → Type 0
+IsRestartBy stage.Apply m answer = (e : Changed) × (fault_of m ≡ Some (fault.Changed e))
+IsRestartBy s m answer = goes_on answer ≡ false
+
+-- ---- why it ends as an overlap
+
+-- the place of the key was known, one where a key begins the other, and its check succeeded
+pub record IsOverlapBy (m : Attempt) (answer : Answer) : Type 0 where
+  pub job : m.job ≡ Insert
+  pub finding : m.stage ≡ stage.Finding
+  pub position : Position
+  pub there : position_at m.finding ≡ Some position
+  pub overlaps : position.verdict ≡ verdict.Overlaps
+  pub succeeded : passed answer ≡ true
+
+-- ---- at each stage
+
+abbrev pub StageFits : Sizes → View → Stage → Attempt → Room → View → Type 0
+StageFits z u stage.Finding m r v = IsFinding z u m r v
+StageFits z u stage.Reserve m r v = HasSupplies z u m r v × (reserve.ended_at m.reserve ≡ None)
+StageFits z u (stage.Reading q) m r v = IsReadingOn z u m q r v × (q.place < size_of m.position.stamp.cell)
+StageFits z u stage.Vouching m r v = HasVouched z u m r v × (vouching.ended_at m.vouching ≡ None)
+StageFits z u stage.Lowering m r v = HasLower z u m r v × (lowering.ended_at m.lowering ≡ None)
+StageFits z u stage.Apply m r v = HasMade z u m r v × (apply.ended_at m.apply ≡ None)
+StageFits z u (stage.Ended e) m r v = EndFits z u m r e v
+
+-- the room is one of a key
+pub record IsRoom (z : Sizes) (r : Room) : Type 0 where
+  pub sizes : r.sizes ≡ z
+  pub key : IsKey r.row.key.items
+
+-- it is an attempt of the same job still, of the same row but for the number that its leaf has
+pub record IsSameTry (m n : Attempt) (r s : Room) : Type 0 where
+  pub job : n.job ≡ m.job
+  pub key : s.row.key ≡ r.row.key
+  pub value : s.row.value ≡ r.row.value
+
+pub record Fits (z : Sizes) (u : View) (m : Attempt) (r : Room) (v : View) : Type 0 where
+  pub room : IsRoom z r
+  pub stage : StageFits z u m.stage m r v

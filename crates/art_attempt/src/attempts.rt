@@ -1,0 +1,252 @@
+//! One attempt of a write, step by step.
+ghost use Rattle.std.specs.Prelude.{◌≡◌, ◌≢◌, ℕ, ◌+◌, ◌-◌, ◌<◌, ◌≤◌, length, Some, None, true};
+ghost use Rattle.art_attempt.specs.Asking.{Answers};
+ghost use Rattle.art_attempt.specs.Attempts.{Fits, IsOverlapBy, IsRestartBy, IsRoom, IsSameTry, asks, deed_at, ended_at, found_at, free_at, is_free, nowhere, steps_left};
+ghost use Rattle.art_attempt.specs.Trying.{StillTries};
+ghost use Rattle.art_attempt.specs.declared.attempts.Ending.TheVariants.{Restart as anew, Overlaps as overlaps};
+ghost use Rattle.art_frame.specs.Stocks.{HasStock};
+ghost use Rattle.art_machine.specs.Acting.{steps_in};
+ghost use Rattle.art_machine.specs.declared.actions.Action.{Action as ActionOf};
+ghost use Rattle.art_step.specs.declared.views.Sizes.{Sizes};
+ghost use Rattle.art_step.specs.declared.views.View.{View};
+
+use crate::{Case, Room};
+use art_cell::{Cell, Pool};
+use art_find::{Finding, Position, Rereading, Verdict};
+use art_gather::{Lowered, Lowering, Reserve, Reserved, Vouched, Vouching};
+use art_machine::{Action, Answer};
+use art_make::Apply;
+use art_step::{EpochSteps, Stamp};
+
+/// What a write does.
+#[derive(Clone, Copy)]
+pub enum Job {
+    /// The row of the room comes into the tree, if its key has none.
+    Insert,
+    /// The row with the key of the room's row goes, if there is one.
+    Remove,
+}
+
+/// How an attempt ended.
+#[derive(Clone, Copy)]
+pub enum Ending {
+    /// The row is in the tree.
+    New,
+    /// The key is there, and keeps this value.
+    Present(u64),
+    /// The row is out of the tree; it had this value.
+    Gone(u64),
+    /// No row has the key.
+    Absent,
+    /// No number of the pool was found.
+    Full(Pool),
+    /// The counter of a cell that was to be locked is at its end.
+    Exhausted(Cell),
+    /// A key begins the other.
+    Overlaps,
+    /// A version word was locked, obsolete or changed: it may be tried anew.
+    Restart,
+}
+
+/// Where an attempt stands between two of its steps.
+#[derive(Clone, Copy)]
+pub enum Stage {
+    /// The place of the key is sought.
+    Finding,
+    /// Numbers come into the hand.
+    Reserve,
+    /// The words of the node that are missing are read, to tell which child it keeps.
+    Reading(Rereading),
+    /// What is still to be read is read, and the cells are checked.
+    Vouching,
+    /// The same, with the node that takes the place of the one that goes.
+    Lowering,
+    /// The change is made.
+    Apply,
+    Ended(Ending),
+}
+
+/// One attempt of a write, from the anchor down to its end. What is large stands beside it, in the room.
+#[derive(Clone, Copy)]
+pub struct Attempt {
+    pub(crate) job: Job,
+    pub(crate) stage: Stage,
+    pub(crate) finding: Finding,
+    /// Where the key stands, once that is known.
+    pub(crate) position: Position,
+    /// What is changed, once that is known.
+    pub(crate) case: Case,
+    pub(crate) reserve: Reserve,
+    pub(crate) vouching: Vouching,
+    pub(crate) lowering: Lowering,
+    pub(crate) apply: Apply,
+}
+
+impl Attempt {
+    ghost use Rattle.std.specs.Prelude.{IfSome};
+    ghost use Rattle.art_attempt.specs.Asking.{IsAllowed};
+    ghost use Rattle.art_attempt.specs.Attempts.{EndsSo};
+    ghost use Rattle.art_attempt.specs.declared.attempts.Job.{Job as JobOf};
+    ghost use Rattle.art_attempt.specs.declared.rooms.Room.{Room as RoomOf};
+
+    /// At its beginning.
+    pub fn new(job: Job) -> Attempt
+        ensures job { result.job ≡ job }
+        ensures going { ended_at result ≡ None }
+        ensures free { is_free result ≡ true }
+        ensures fits { (z : Sizes) (u : View) (r : RoomOf) → IsRoom z r → StillTries u u →
+            HasStock z r.row.key.items r.row.value u r.stock → Fits z u result r u }
+    {
+        Attempt {
+            job,
+            stage: Stage::Finding,
+            finding: Finding::new(),
+            position: nowhere(),
+            case: Case::NewLeaf,
+            reserve: Reserve::Ended(Reserved::Ready),
+            vouching: Vouching::Ended(Vouched::Changed),
+            lowering: Lowering::Ended(Lowered::Changed),
+            apply: Apply::Ended(Ok(())),
+        }
+    }
+
+    /// The next step, or none where it has ended.
+    pub fn next(&self, room: &Room) -> Option<Action>
+        requires short { length room.now.row.key.items ≤ 64 }
+        ensures asks { result ≡ asks self.now room.now }
+        ensures allowed { (z : Sizes) (u v : View) → Fits z u self.now room.now v →
+            IfSome result (IsAllowed z (deed_at self.now room.now) room.now.change v) }
+        ensures going { (z : Sizes) (u v : View) → Fits z u self.now room.now v → ended_at self.now ≡ None →
+            (a : ActionOf) × (result ≡ Some a) }
+    {
+        match self.stage {
+            Stage::Finding => self.find_next(),
+            Stage::Reserve => self.supply_next(room),
+            Stage::Reading(rereading) => self.read_next(rereading),
+            Stage::Vouching => self.vouch_next(),
+            Stage::Lowering => self.lower_next(),
+            Stage::Apply => self.make_next(room),
+            Stage::Ended(_) => None,
+        }
+    }
+
+    /// The step that it asked for was made, with this answer.
+    pub fn told(&mut self, room: &mut Room, answer: Answer)
+        requires { (z : Sizes) × (u : View) × (v : View) × (w : View) × (asked : ActionOf) × Fits z u self.old room.old v ×
+            (asks self.old room.old ≡ Some asked) × Answers z (deed_at self.old room.old) room.old.change asked answer v w }
+        ensures kept { IsSameTry self.old self.new room.old room.new }
+        ensures fits { (z : Sizes) (u v w : View) (asked : ActionOf) → Fits z u self.old room.old v →
+            asks self.old room.old ≡ Some asked → Answers z (deed_at self.old room.old) room.old.change asked answer v w →
+            Fits z u self.new room.new w }
+        ensures left { (left : ℕ) → (is_free self.old ≡ true → 0 < left) →
+            steps_left (left - steps_in answer) self.new < steps_left left self.old }
+        ensures anew { ended_at self.new ≡ Some anew → IsRestartBy self.old.stage self.new.apply answer }
+        ensures overlaps { ended_at self.new ≡ Some overlaps → IsOverlapBy self.old answer }
+    {
+        match self.stage {
+            Stage::Finding => self.find_told(room, answer),
+            Stage::Reserve => self.supply_told(room, answer),
+            Stage::Reading(rereading) => self.read_told(room, rereading, answer),
+            Stage::Vouching => self.vouch_told(room, answer),
+            Stage::Lowering => self.lower_told(room, answer),
+            Stage::Apply => self.make_told(room, answer),
+            Stage::Ended(_) => {}
+        }
+    }
+
+    /// Makes the steps of the stage where it stands, but for one that tells its event before a change is made.
+    pub fn hurry<S: EpochSteps>(&mut self, steps: &mut S, room: &mut Room, left: &mut u32)
+        requires turn { is_free self.old ≡ true → 0 < left.old }
+        requires admitted { S.admits steps.old room.old.row.key.items }
+        requires short { length room.old.row.key.items ≤ 64 }
+        requires going { ended_at self.old ≡ None }
+        requires fits { (u : View) × Fits (S.sizes steps.old) u self.old room.old (S.view steps.old) }
+        ensures only { S.only steps.old steps.new }
+        ensures kept { IsSameTry self.old self.new room.old room.new }
+        ensures not_overlaps { ended_at self.new ≢ Some overlaps }
+        ensures turn { is_free self.new ≡ true → ended_at self.new ≡ None → 0 < left.new }
+        ensures later { (S.view steps.old).steps ≤ (S.view steps.new).steps }
+        ensures counted { (S.view steps.old).steps + left.old ≤ (S.view steps.new).steps + left.new }
+        ensures left { (S.view steps.new).steps + steps_left left.new self.new ≤ (S.view steps.old).steps + steps_left left.old self.old }
+        ensures fits { (u : View) → Fits (S.sizes steps.old) u self.old room.old (S.view steps.old) →
+            Fits (S.sizes steps.old) u self.new room.new (S.view steps.new) }
+    {
+        if *left == 0 {
+            return;
+        }
+        match self.stage {
+            Stage::Finding => {
+                self.find_all(steps, room, left);
+                self.settle_on(steps, room, left);
+            }
+            Stage::Reserve => self.supply_all(steps, room, left),
+            Stage::Reading(_) => self.read_all(steps, room, left),
+            Stage::Vouching => self.vouch_all(steps, room, left),
+            Stage::Lowering => self.lower_all(steps, room, left),
+            Stage::Apply => self.make_all(steps, room, left),
+            Stage::Ended(_) => {}
+        }
+    }
+
+    /// What it does.
+    pub fn job(&self) -> Job
+        ensures { result ≡ self.now.job }
+    {
+        self.job
+    }
+
+    /// How it ended, if it has.
+    pub fn ended(&self) -> Option<Ending>
+        ensures at { result ≡ ended_at self.now }
+    {
+        match self.stage {
+            Stage::Ended(ending) => Some(ending),
+            _ => None,
+        }
+    }
+
+    /// Whether nothing is held: no cell was locked yet, or none is any more.
+    pub fn is_free(&self) -> bool
+        ensures at { result ≡ is_free self.now }
+        ensures free { result ≡ true → ended_at self.now ≡ None → (z : Sizes) (u v : View) (r : RoomOf) → Fits z u self.now r v →
+            EndsSo z u r v }
+    {
+        free_at(self.stage, &self.apply)
+    }
+
+    /// The value that was found, where the check of the place settles the answer.
+    pub(crate) fn found(&self) -> u64
+        ensures { result ≡ found_at self.now }
+    {
+        match self.finding.position() {
+            Some(position) => position.verdict.value().unwrap_or(0),
+            None => 0,
+        }
+    }
+}
+
+/// A position that says nothing, where none is known yet.
+fn nowhere() -> Position
+    ensures { result ≡ nowhere }
+{
+    Position {
+        stamp: Stamp {
+            cell: Cell::Anchor,
+            version: 0,
+            first: 0,
+        },
+        depth: 0,
+        above: None,
+        verdict: Verdict::Absent,
+    }
+}
+
+/// Whether nothing is held at this stage.
+fn free_at(stage: Stage, apply: &Apply) -> bool
+    ensures { result ≡ free_at stage apply.now }
+{
+    match stage {
+        Stage::Apply => apply.is_begun(),
+        _ => true,
+    }
+}

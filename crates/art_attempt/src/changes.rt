@@ -1,0 +1,311 @@
+//! How an attempt plans its change, and makes it.
+ghost use Rattle.std.specs.Prelude.{◌≡◌, ◌≢◌, ℕ, ◌+◌, ◌-◌, ◌<◌, ◌≤◌, None, Some, true, Result, ⊤};
+ghost use Rattle.art_attempt.specs.Attempts.{EndsWithin, Fits, HasLower, HasMade, HasVouched, IsRoom, IsSameTry, MayMake, apply_asks, apply_left};
+ghost use Rattle.art_attempt.specs.Attempts.{ended_at, ended_so, is_free, steps_left};
+ghost use Rattle.art_attempt.specs.Attempts.{given_up, written};
+ghost use Rattle.art_attempt.specs.declared.attempts.Ending.TheVariants.{Restart as anew, Overlaps as overlaps};
+ghost use Rattle.art_attempt.specs.declared.attempts.Stage.TheVariants as stages;
+ghost use Rattle.art_attempt.specs.declared.cases.Case.TheVariants as cases;
+ghost use Rattle.art_gather.specs.Lowering.{ended_at as lowered_at};
+ghost use Rattle.art_gather.specs.Vouching.{ended_at as vouched_at};
+ghost use Rattle.art_gather.specs.declared.lowering.Lowered.TheVariants.{Unchanged as lowered};
+ghost use Rattle.art_gather.specs.declared.vouching.Vouched.TheVariants.{Unchanged as unchanged};
+ghost use Rattle.art_machine.specs.Acting.{Answers as ActionAnswers, steps_in};
+ghost use Rattle.art_machine.specs.declared.actions.Action.{Action as ActionOf};
+ghost use Rattle.art_make.specs.Apply.{brings, ended_at as made_at, fault_of, is_begun};
+ghost use Rattle.art_plan.specs.Changes.{targets};
+ghost use Rattle.art_step.specs.declared.faults.Changed.{Changed};
+ghost use Rattle.art_step.specs.declared.faults.UpgradeFault.{UpgradeFault as FaultOf};
+ghost use Rattle.art_step.specs.declared.faults.UpgradeFault.TheVariants.{Changed as changed};
+ghost use Rattle.art_step.specs.declared.views.Sizes.{Sizes};
+ghost use Rattle.art_step.specs.declared.views.View.{View};
+
+use crate::{Attempt, Case, Ending, Job, Room, Stage};
+use art_cell::Layout;
+use art_machine::{Action, Answer};
+use art_make::Apply;
+use art_plan::{
+    Lower, needed, plan_drop, plan_insert, plan_merge_leaf, plan_merge_node, plan_shrink,
+};
+use art_step::{EpochSteps, Stamp, UpgradeFault};
+
+impl Attempt {
+    ghost use Rattle.std.specs.Prelude.{IfSome};
+    ghost use Rattle.art_attempt.specs.Asking.{IsAllowed};
+    ghost use Rattle.art_attempt.specs.Attempts.{asks_at};
+    ghost use Rattle.art_step.specs.declared.deeds.Deed.{Deed};
+
+    /// All that is written was seen: the change is planned.
+    pub(crate) fn plan(&mut self, room: &mut Room)
+        requires { (z : Sizes) × (u : View) × (v : View) × IsRoom z room.old × HasVouched z u self.old room.old v ×
+            (vouched_at self.old.vouching ≡ Some unchanged) }
+        ensures kept { IsSameTry self.old self.new room.old room.new }
+        ensures not_anew { ended_at self.new ≢ Some anew }
+        ensures not_overlaps { ended_at self.new ≢ Some overlaps }
+        ensures free { is_free self.new ≡ true }
+        ensures fits { (z : Sizes) (u v : View) → IsRoom z room.old → HasVouched z u self.old room.old v →
+            vouched_at self.old.vouching ≡ Some unchanged → Fits z u self.new room.new v }
+    {
+        match self.case {
+            Case::NewLeaf => self.plan_new(room),
+            Case::DropLeaf => self.plan_stays(room),
+            Case::Shrink(layout) => self.plan_shrinks(room, layout),
+            Case::MergeLeaf(other) => self.plan_merges(room, other),
+            Case::MergeNode { .. } | Case::Torn => unreachable!(),
+        }
+    }
+
+    /// A leaf comes.
+    fn plan_new(&mut self, room: &mut Room)
+        requires case { self.old.case ≡ cases.NewLeaf }
+        requires vouched { (z : Sizes) × (u : View) × (v : View) × IsRoom z room.old × HasVouched z u self.old room.old v ×
+            (vouched_at self.old.vouching ≡ Some unchanged) }
+        ensures kept { IsSameTry self.old self.new room.old room.new }
+        ensures not_anew { ended_at self.new ≢ Some anew }
+        ensures not_overlaps { ended_at self.new ≢ Some overlaps }
+        ensures free { is_free self.new ≡ true }
+        ensures fits { (z : Sizes) (u v : View) → IsRoom z room.old → HasVouched z u self.old room.old v →
+            vouched_at self.old.vouching ≡ Some unchanged → Fits z u self.new room.new v }
+    {
+        let Some(leaf) = room.stock.leaf() else {
+            unreachable!();
+        };
+        room.row.number = leaf;
+        let made = room.number_for(needed(&self.position.verdict).node);
+        let Room {
+            row,
+            read_set,
+            bodies,
+            change,
+            ..
+        } = room;
+        plan_insert(change, bodies, &self.position, read_set, row, made);
+        self.begin(room);
+    }
+
+    /// The leaf goes alone.
+    fn plan_stays(&mut self, room: &mut Room)
+        requires case { self.old.case ≡ cases.DropLeaf }
+        requires vouched { (z : Sizes) × (u : View) × (v : View) × IsRoom z room.old × HasVouched z u self.old room.old v ×
+            (vouched_at self.old.vouching ≡ Some unchanged) }
+        ensures kept { IsSameTry self.old self.new room.old room.new }
+        ensures not_anew { ended_at self.new ≢ Some anew }
+        ensures not_overlaps { ended_at self.new ≢ Some overlaps }
+        ensures free { is_free self.new ≡ true }
+        ensures fits { (z : Sizes) (u v : View) → IsRoom z room.old → HasVouched z u self.old room.old v →
+            vouched_at self.old.vouching ≡ Some unchanged → Fits z u self.new room.new v }
+    {
+        let Room {
+            gone,
+            read_set,
+            bodies,
+            change,
+            ..
+        } = room;
+        plan_drop(change, bodies, &self.position, read_set, gone);
+        self.begin(room);
+    }
+
+    /// The node gives way to a smaller one.
+    fn plan_shrinks(&mut self, room: &mut Room, layout: Layout)
+        requires case { self.old.case ≡ cases.Shrink layout }
+        requires vouched { (z : Sizes) × (u : View) × (v : View) × IsRoom z room.old × HasVouched z u self.old room.old v ×
+            (vouched_at self.old.vouching ≡ Some unchanged) }
+        ensures kept { IsSameTry self.old self.new room.old room.new }
+        ensures not_anew { ended_at self.new ≢ Some anew }
+        ensures not_overlaps { ended_at self.new ≢ Some overlaps }
+        ensures free { is_free self.new ≡ true }
+        ensures fits { (z : Sizes) (u v : View) → IsRoom z room.old → HasVouched z u self.old room.old v →
+            vouched_at self.old.vouching ≡ Some unchanged → Fits z u self.new room.new v }
+    {
+        let made = room.number_for(Some(layout));
+        let Room {
+            gone,
+            read_set,
+            bodies,
+            change,
+            ..
+        } = room;
+        plan_shrink(change, bodies, &self.position, read_set, gone, made);
+        self.begin(room);
+    }
+
+    /// The node gives way to its other child, a leaf.
+    fn plan_merges(&mut self, room: &mut Room, other: u32)
+        requires case { self.old.case ≡ cases.MergeLeaf other }
+        requires vouched { (z : Sizes) × (u : View) × (v : View) × IsRoom z room.old × HasVouched z u self.old room.old v ×
+            (vouched_at self.old.vouching ≡ Some unchanged) }
+        ensures kept { IsSameTry self.old self.new room.old room.new }
+        ensures not_anew { ended_at self.new ≢ Some anew }
+        ensures not_overlaps { ended_at self.new ≢ Some overlaps }
+        ensures free { is_free self.new ≡ true }
+        ensures fits { (z : Sizes) (u v : View) → IsRoom z room.old → HasVouched z u self.old room.old v →
+            vouched_at self.old.vouching ≡ Some unchanged → Fits z u self.new room.new v }
+    {
+        let Room {
+            gone,
+            read_set,
+            bodies,
+            change,
+            ..
+        } = room;
+        plan_merge_leaf(change, bodies, &self.position, read_set, gone, other);
+        self.begin(room);
+    }
+
+    /// The node gives way to its other child, a node that has this stamp.
+    pub(crate) fn plan_lowers(&mut self, room: &mut Room, stamp: Stamp)
+        requires { (z : Sizes) × (u : View) × (v : View) × IsRoom z room.old × HasLower z u self.old room.old v ×
+            (lowered_at self.old.lowering ≡ Some (lowered stamp)) }
+        ensures kept { IsSameTry self.old self.new room.old room.new }
+        ensures not_anew { ended_at self.new ≢ Some anew }
+        ensures not_overlaps { ended_at self.new ≢ Some overlaps }
+        ensures free { is_free self.new ≡ true }
+        ensures fits { (z : Sizes) (u v : View) → IsRoom z room.old → HasLower z u self.old room.old v →
+            lowered_at self.old.lowering ≡ Some (lowered stamp) → Fits z u self.new room.new v }
+    {
+        let Case::MergeNode { byte, node } = self.case else {
+            unreachable!();
+        };
+        let child = Lower { stamp, node, byte };
+        let Room {
+            gone,
+            read_set,
+            lower,
+            bodies,
+            lower_body,
+            change,
+            ..
+        } = room;
+        let position = &self.position;
+        if !plan_merge_node(
+            change, bodies, lower_body, position, read_set, &child, lower, gone,
+        ) {
+            // the lower node is a third cell, and the joined prefix is short
+            unreachable!();
+        }
+        self.begin(room);
+    }
+
+    /// The change is planned, and is made.
+    fn begin(&mut self, room: &Room)
+        requires { 0 < targets room.now.change }
+        ensures job { self.new.job ≡ self.old.job }
+        ensures not_anew { ended_at self.new ≢ Some anew }
+        ensures not_overlaps { ended_at self.new ≢ Some overlaps }
+        ensures free { is_free self.new ≡ true }
+        ensures fits { (z : Sizes) (u v : View) → IsRoom z room.now → EndsWithin z u 22300 room.now v → MayMake z u self.old room.now v →
+            Fits z u self.new room.now v }
+    {
+        self.apply = Apply::new(&room.change);
+        self.stage = Stage::Apply;
+    }
+
+    /// What comes next where the change is made.
+    #[inline(always)]
+    pub(crate) fn make_next(&self, room: &Room) -> Option<Action>
+        ensures asks { result ≡ asks_at stages.Apply self.now room.now }
+        ensures allowed { (z : Sizes) (u v : View) (d : Deed) → HasMade z u self.now room.now v →
+            IfSome result (IsAllowed z d room.now.change v) }
+        ensures going { (z : Sizes) (u v : View) → HasMade z u self.now room.now v → made_at self.now.apply ≡ None →
+            (a : ActionOf) × (result ≡ Some a) }
+    {
+        self.apply.next(&room.change)
+    }
+
+    /// A step of the change was made.
+    #[inline(always)]
+    pub(crate) fn make_told(&mut self, room: &mut Room, answer: Answer)
+        requires stage { self.old.stage ≡ stages.Apply }
+        requires told { (z : Sizes) × (u : View) × (v : View) × (w : View) × (asked : ActionOf) × IsRoom z room.old ×
+            HasMade z u self.old room.old v × (apply_asks self.old room.old ≡ Some asked) ×
+            ActionAnswers z (brings room.old.change) asked answer v w }
+        ensures kept { IsSameTry self.old self.new room.old room.new }
+        ensures fits { (z : Sizes) (u v w : View) (asked : ActionOf) → IsRoom z room.old → HasMade z u self.old room.old v →
+            apply_asks self.old room.old ≡ Some asked → ActionAnswers z (brings room.old.change) asked answer v w →
+            Fits z u self.new room.new w }
+        ensures left { (left : ℕ) → (is_begun self.old.apply ≡ true → 0 < left) →
+            steps_left (left - steps_in answer) self.new < apply_left left self.old.apply }
+        ensures anew { ended_at self.new ≡ Some anew → (e : Changed) × (fault_of self.new.apply ≡ Some (changed e)) }
+        ensures not_overlaps { ended_at self.new ≢ Some overlaps }
+        ensures over { is_free self.new ≡ true → ended_at self.new ≢ None }
+    {
+        self.apply.told(&room.change, answer);
+        self.make_on(room);
+    }
+
+    /// Makes all steps that are left of the change; where no cell is locked yet, as long as more than one turn is left.
+    pub(crate) fn make_all<S: EpochSteps>(&mut self, steps: &mut S, room: &mut Room, left: &mut u32)
+        requires stage { self.old.stage ≡ stages.Apply }
+        requires turn { 0 < left.old }
+        requires admitted { S.admits steps.old room.old.row.key.items }
+        requires fits { (u : View) × Fits (S.sizes steps.old) u self.old room.old (S.view steps.old) }
+        ensures only { S.only steps.old steps.new }
+        ensures kept { IsSameTry self.old self.new room.old room.new }
+        ensures not_overlaps { ended_at self.new ≢ Some overlaps }
+        ensures turn { is_free self.new ≡ true → ended_at self.new ≡ None → 0 < left.new }
+        ensures later { (S.view steps.old).steps ≤ (S.view steps.new).steps }
+        ensures counted { (S.view steps.old).steps + left.old ≤ (S.view steps.new).steps + left.new }
+        ensures left { (S.view steps.new).steps + steps_left left.new self.new ≤ (S.view steps.old).steps + steps_left left.old self.old }
+        ensures fits { (u : View) → Fits (S.sizes steps.old) u self.old room.old (S.view steps.old) →
+            Fits (S.sizes steps.old) u self.new room.new (S.view steps.new) }
+    {
+        self.apply.run(steps, &room.change, left);
+        self.make_on(room);
+    }
+
+    /// It goes on; or the change is made, or was given up.
+    #[inline(always)]
+    fn make_on(&mut self, room: &mut Room)
+        requires stage { self.old.stage ≡ stages.Apply }
+        ensures kept { IsSameTry self.old self.new room.old room.new }
+        ensures going { made_at self.old.apply ≡ None → self.new ≡ self.old }
+        ensures ended { (made : Result ⊤ FaultOf) → made_at self.old.apply ≡ Some made →
+            self.new.stage ≡ stages.Ended (ended_so self.old.job room.old.gone.value made) }
+        ensures apply { self.new.apply ≡ self.old.apply }
+        ensures fits { (z : Sizes) (u v : View) → IsRoom z room.old → HasMade z u self.old room.old v → Fits z u self.new room.new v }
+    {
+        match self.apply.ended() {
+            None => {}
+            Some(made) => self.made(room, made),
+        }
+    }
+
+    /// The change is made, or was given up.
+    #[inline(always)]
+    fn made(&mut self, room: &mut Room, made: Result<(), UpgradeFault>)
+        ensures kept { IsSameTry self.old self.new room.old room.new }
+        ensures stage { self.new.stage ≡ stages.Ended (ended_so self.old.job room.old.gone.value made) }
+        ensures apply { self.new.apply ≡ self.old.apply }
+        ensures fits { (z : Sizes) (u v : View) → IsRoom z room.old → HasMade z u self.old room.old v →
+            made_at self.old.apply ≡ Some made → Fits z u self.new room.new v }
+    {
+        match made {
+            Ok(()) => {
+                room.spend();
+                self.stage = Stage::Ended(written(self.job, room.gone.value));
+            }
+            Err(fault) => self.stage = Stage::Ended(given_up(fault)),
+        }
+    }
+}
+
+/// How an attempt ends whose change was made, of a row that had this value.
+fn written(job: Job, value: u64) -> Ending
+    ensures { result ≡ written job value }
+{
+    match job {
+        Job::Insert => Ending::New,
+        Job::Remove => Ending::Gone(value),
+    }
+}
+
+/// How an attempt ends whose change was given up.
+fn given_up(fault: UpgradeFault) -> Ending
+    ensures { result ≡ given_up fault }
+{
+    match fault {
+        UpgradeFault::Changed(_) => Ending::Restart,
+        UpgradeFault::Exhausted(cell) => Ending::Exhausted(cell),
+    }
+}

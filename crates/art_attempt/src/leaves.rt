@@ -1,0 +1,266 @@
+//! How an attempt tells what goes with a leaf, by the words of the node that names it.
+ghost use Rattle.std.specs.Prelude.{◌≡◌, ◌≢◌, ℕ, ◌+◌, ◌<◌, ◌≤◌, None, Some, true, false};
+ghost use Rattle.art_attempt.specs.Attempts.{EndsWithin, Fits, HasLower, IsReadingOn, IsRoom, IsSameTry, asks_at, deed_at, ended_at, is_free};
+ghost use Rattle.art_attempt.specs.Attempts.{lower_asks, reading_asks};
+ghost use Rattle.art_attempt.specs.Cases.{HasLeaf, LeavesOther};
+ghost use Rattle.art_attempt.specs.declared.attempts.Ending.TheVariants.{Restart as anew, Overlaps as overlaps};
+ghost use Rattle.art_attempt.specs.declared.attempts.Job.TheVariants as jobs;
+ghost use Rattle.art_attempt.specs.declared.attempts.Stage.TheVariants as stages;
+ghost use Rattle.art_cell.specs.declared.cells.Link.TheVariants.{Node as node_link};
+ghost use Rattle.art_find.specs.Findings.{IsStanding};
+ghost use Rattle.art_gather.specs.Lowering.{ended_at as lowered_at};
+ghost use Rattle.art_gather.specs.Vouching.{KnowsHere};
+ghost use Rattle.art_gather.specs.declared.lowering.Lowered.TheVariants.{Changed as changed_lower};
+ghost use Rattle.art_machine.specs.Acting.{Answers as ActionAnswers, goes_on, telling};
+ghost use Rattle.art_machine.specs.Turns.{Spends};
+ghost use Rattle.art_machine.specs.declared.actions.Action.{Action as ActionOf};
+ghost use Rattle.art_plan.specs.ChooseRemove.Losses.{loss_at};
+ghost use Rattle.art_plan.specs.ChooseRemove.Others.{NamesChild};
+ghost use Rattle.art_plan.specs.declared.choose_remove.losses.Loss.TheVariants as losses;
+ghost use Rattle.art_step.specs.Views.{size_of};
+ghost use Rattle.art_step.specs.declared.views.Sizes.{Sizes};
+ghost use Rattle.art_step.specs.declared.views.View.{View};
+
+use crate::{Attempt, Case, Ending, Room, Stage};
+use art_cell::{Link, Node};
+use art_find::{ReadSet, Rereading, look};
+use art_gather::{Lowered, Lowering};
+use art_machine::{Action, Answer};
+use art_plan::{Loss, lost, other_child};
+use art_step::EpochSteps;
+
+impl Attempt {
+    ghost use Rattle.std.specs.Prelude.{IfSome};
+    ghost use Rattle.art_attempt.specs.Asking.{IsAllowed};
+    ghost use Rattle.art_attempt.specs.declared.rooms.Room.{Room as RoomOf};
+    ghost use Rattle.art_step.specs.declared.deeds.Deed.{Deed};
+
+    /// What comes next where the node is read on.
+    #[inline(always)]
+    pub(crate) fn read_next(&self, rereading: Rereading) -> Option<Action>
+        ensures asks { (r : RoomOf) → result ≡ asks_at (stages.Reading rereading) self.now r }
+        ensures allowed { (z : Sizes) (u v : View) (r : RoomOf) (d : Deed) → IsReadingOn z u self.now rereading r v →
+            IfSome result (IsAllowed z d r.change v) }
+        ensures going { (z : Sizes) (u v : View) (r : RoomOf) → IsReadingOn z u self.now rereading r v →
+            rereading.place < size_of self.now.position.stamp.cell → (a : ActionOf) × (result ≡ Some a) }
+    {
+        rereading.next(self.position.stamp)
+    }
+
+    /// The leaf is there, and its place was checked: what goes with it says what comes next.
+    pub(crate) fn choose(&mut self, room: &mut Room)
+        requires { (z : Sizes) × (u : View) × (v : View) × IsRoom z room.old × EndsWithin z u 1201 room.old v ×
+            HasLeaf self.old.position room.old }
+        ensures kept { IsSameTry self.old self.new room.old room.new }
+        ensures not_anew { ended_at self.new ≢ Some anew }
+        ensures not_overlaps { ended_at self.new ≢ Some overlaps }
+        ensures free { is_free self.new ≡ true }
+        ensures fits { (z : Sizes) (u v : View) → IsRoom z room.old → EndsWithin z u 1201 room.old v → self.old.job ≡ jobs.Remove →
+            HasLeaf self.old.position room.old → IsStanding z room.old.row.key.items self.old.position room.old.read_set v →
+            Fits z u self.new room.new v }
+    {
+        match self.loss(&room.read_set) {
+            Loss::Leaf => self.vouch(room, Case::DropLeaf),
+            Loss::Shrinks(layout) => self.supply(room, Case::Shrink(layout)),
+            Loss::Merges => self.read_on(room, Rereading::new(room.read_set.node())),
+        }
+    }
+
+    /// What goes with the leaf, by the words that were read.
+    fn loss(&self, read_set: &ReadSet) -> Loss
+        ensures { result ≡ loss_at self.now.position read_set.now }
+    {
+        lost(
+            self.position.stamp.cell,
+            read_set.node().get(1).unwrap_or(0),
+        )
+    }
+
+    /// A word of the node was read. Where its header was not known before, it is now, and may tell that the node stays, or shrinks.
+    pub(crate) fn read_told(&mut self, room: &mut Room, rereading: Rereading, answer: Answer)
+        requires more { rereading.place < size_of self.old.position.stamp.cell }
+        requires told { (z : Sizes) × (u : View) × (v : View) × (w : View) × (asked : ActionOf) × IsRoom z room.old ×
+            IsReadingOn z u self.old rereading room.old v × (reading_asks self.old rereading ≡ Some asked) ×
+            ActionAnswers z (telling (deed_at self.old room.old)) asked answer v w }
+        ensures kept { IsSameTry self.old self.new room.old room.new }
+        ensures not_anew { ended_at self.new ≢ Some anew }
+        ensures not_overlaps { ended_at self.new ≢ Some overlaps }
+        ensures free { is_free self.new ≡ true }
+        ensures fits { (z : Sizes) (u v w : View) (asked : ActionOf) → IsRoom z room.old →
+            IsReadingOn z u self.old rereading room.old v → reading_asks self.old rereading ≡ Some asked →
+            ActionAnswers z (telling (deed_at self.old room.old)) asked answer v w → Fits z u self.new room.new w }
+    {
+        let mut rereading = rereading;
+        room.read_set.reread_node(&mut rereading, answer.found());
+        match self.loss(&room.read_set) {
+            Loss::Leaf => self.vouch(room, Case::DropLeaf),
+            Loss::Shrinks(layout) => self.supply(room, Case::Shrink(layout)),
+            Loss::Merges => self.read_on(room, rereading),
+        }
+    }
+
+    /// Reads the words of the node that are missing, as long as more than one turn is left.
+    pub(crate) fn read_all<S: EpochSteps>(&mut self, steps: &mut S, room: &mut Room, left: &mut u32)
+        requires free { is_free self.old ≡ true }
+        requires not_overlaps { ended_at self.old ≢ Some overlaps }
+        requires turn { 0 < left.old }
+        requires fits { (u : View) × Fits (S.sizes steps.old) u self.old room.old (S.view steps.old) }
+        ensures only { S.only steps.old steps.new }
+        ensures kept { IsSameTry self.old self.new room.old room.new }
+        ensures free { is_free self.new ≡ true }
+        ensures not_overlaps { ended_at self.new ≢ Some overlaps }
+        ensures turn { 0 < left.new }
+        ensures less { left.new ≤ left.old }
+        ensures made { (S.view steps.new).steps + left.new ≡ (S.view steps.old).steps + left.old }
+        ensures fits { (u : View) → Fits (S.sizes steps.old) u self.old room.old (S.view steps.old) →
+            Fits (S.sizes steps.old) u self.new room.new (S.view steps.new) }
+    {
+        while *left > 1 {
+            let Stage::Reading(rereading) = self.stage else {
+                return;
+            };
+            let Some(asked) = rereading.next(self.position.stamp) else {
+                return;
+            };
+            let Some(answer) = look(steps, asked) else {
+                return;
+            };
+            *left -= 1;
+            self.read_told(room, rereading, answer);
+        }
+    }
+
+    /// The node is read on, or all its words are known: it goes, and gives way to its other child.
+    fn read_on(&mut self, room: &Room, rereading: Rereading)
+        requires { HasLeaf self.old.position room.now }
+        ensures job { self.new.job ≡ self.old.job }
+        ensures not_anew { ended_at self.new ≢ Some anew }
+        ensures not_overlaps { ended_at self.new ≢ Some overlaps }
+        ensures free { is_free self.new ≡ true }
+        ensures fits { (z : Sizes) (u v : View) → IsRoom z room.now → IsReadingOn z u self.old rereading room.now v →
+            Fits z u self.new room.now v }
+    {
+        match rereading.next(self.position.stamp) {
+            Some(_) => self.stage = Stage::Reading(rereading),
+            None => self.merge(room),
+        }
+    }
+
+    /// The node gives way to its other child.
+    fn merge(&mut self, room: &Room)
+        requires { HasLeaf self.old.position room.now }
+        ensures job { self.new.job ≡ self.old.job }
+        ensures not_anew { ended_at self.new ≢ Some anew }
+        ensures not_overlaps { ended_at self.new ≢ Some overlaps }
+        ensures free { is_free self.new ≡ true }
+        ensures fits { (z : Sizes) (u v : View) → IsRoom z room.now → EndsWithin z u 21700 room.now v → self.old.job ≡ jobs.Remove →
+            IsStanding z room.now.row.key.items self.old.position room.now.read_set v → KnowsHere self.old.position room.now.read_set →
+            loss_at self.old.position room.now.read_set ≡ losses.Merges → Fits z u self.new room.now v }
+    {
+        let Some((byte, link)) = other_child(&self.position, &room.read_set, &room.gone) else {
+            self.vouch(room, Case::Torn);
+            return;
+        };
+        match link {
+            Link::Leaf(other) => self.vouch(room, Case::MergeLeaf(other)),
+            Link::Node(node) => self.lower(byte, node),
+        }
+    }
+
+    /// The lower node is stamped and read, and all three cells are vouched for.
+    fn lower(&mut self, byte: u8, node: Node)
+        ensures job { self.new.job ≡ self.old.job }
+        ensures not_anew { ended_at self.new ≢ Some anew }
+        ensures not_overlaps { ended_at self.new ≢ Some overlaps }
+        ensures free { is_free self.new ≡ true }
+        ensures fits { (z : Sizes) (u v : View) (r : RoomOf) → IsRoom z r → EndsWithin z u 21700 r v → self.old.job ≡ jobs.Remove →
+            HasLeaf self.old.position r → IsStanding z r.row.key.items self.old.position r.read_set v →
+            KnowsHere self.old.position r.read_set → loss_at self.old.position r.read_set ≡ losses.Merges →
+            NamesChild self.old.position r.read_set (node_link node) →
+            LeavesOther z self.old.position r.read_set r.gone byte (node_link node) → Fits z u self.new r v }
+    {
+        self.case = Case::MergeNode { byte, node };
+        self.lowering = Lowering::new(node);
+        self.stage = Stage::Lowering;
+    }
+
+    /// What comes next where the cells are vouched for, with the lower node.
+    #[inline(always)]
+    pub(crate) fn lower_next(&self) -> Option<Action>
+        ensures asks { (r : RoomOf) → result ≡ asks_at stages.Lowering self.now r }
+        ensures allowed { (z : Sizes) (u v : View) (r : RoomOf) (d : Deed) → HasLower z u self.now r v →
+            IfSome result (IsAllowed z d r.change v) }
+        ensures going { (z : Sizes) (u v : View) (r : RoomOf) → HasLower z u self.now r v → lowered_at self.now.lowering ≡ None →
+            (a : ActionOf) × (result ≡ Some a) }
+    {
+        self.lowering.next(&self.position)
+    }
+
+    /// The lower node was stamped or read, or one of the three cells was.
+    pub(crate) fn lower_told(&mut self, room: &mut Room, answer: Answer)
+        requires stage { self.old.stage ≡ stages.Lowering }
+        requires told { (z : Sizes) × (u : View) × (v : View) × (w : View) × (asked : ActionOf) × IsRoom z room.old ×
+            HasLower z u self.old room.old v × (lower_asks self.old ≡ Some asked) ×
+            ActionAnswers z (telling (deed_at self.old room.old)) asked answer v w }
+        ensures kept { IsSameTry self.old self.new room.old room.new }
+        ensures anew { ended_at self.new ≡ Some anew → goes_on answer ≡ false }
+        ensures not_overlaps { ended_at self.new ≢ Some overlaps }
+        ensures free { is_free self.new ≡ true }
+        ensures fits { (z : Sizes) (u v w : View) (asked : ActionOf) → IsRoom z room.old → HasLower z u self.old room.old v →
+            lower_asks self.old ≡ Some asked → ActionAnswers z (telling (deed_at self.old room.old)) asked answer v w →
+            Fits z u self.new room.new w }
+    {
+        let Room {
+            read_set,
+            lower,
+            ..
+        } = room;
+        self.lowering.told(&self.position, read_set, lower, answer);
+        self.lower_on(room);
+    }
+
+    /// Reads and checks the three cells, as long as more than one turn is left.
+    pub(crate) fn lower_all<S: EpochSteps>(
+        &mut self,
+        steps: &mut S,
+        room: &mut Room,
+        left: &mut u32,
+    )
+        requires stage { self.old.stage ≡ stages.Lowering }
+        requires turn { 0 < left.old }
+        requires fits { (u : View) × Fits (S.sizes steps.old) u self.old room.old (S.view steps.old) }
+        ensures only { S.only steps.old steps.new }
+        ensures kept { IsSameTry self.old self.new room.old room.new }
+        ensures free { is_free self.new ≡ true }
+        ensures not_overlaps { ended_at self.new ≢ Some overlaps }
+        ensures turns { Spends (S.view steps.old) (S.view steps.new) left.old left.new }
+        ensures fits { (u : View) → Fits (S.sizes steps.old) u self.old room.old (S.view steps.old) →
+            Fits (S.sizes steps.old) u self.new room.new (S.view steps.new) }
+    {
+        let Room {
+            read_set,
+            lower,
+            ..
+        } = room;
+        self.lowering
+            .run(steps, &self.position, read_set, lower, left);
+        self.lower_on(room);
+    }
+
+    /// It goes on; or all that is written was seen, and the change is planned; or a cell was changed.
+    fn lower_on(&mut self, room: &mut Room)
+        requires stage { self.old.stage ≡ stages.Lowering }
+        requires lower { (z : Sizes) × (u : View) × (v : View) × IsRoom z room.old × HasLower z u self.old room.old v }
+        ensures kept { IsSameTry self.old self.new room.old room.new }
+        ensures anew { ended_at self.new ≡ Some anew → lowered_at self.old.lowering ≡ Some changed_lower }
+        ensures not_overlaps { ended_at self.new ≢ Some overlaps }
+        ensures free { is_free self.new ≡ true }
+        ensures fits { (z : Sizes) (u v : View) → IsRoom z room.old → HasLower z u self.old room.old v → Fits z u self.new room.new v }
+    {
+        match self.lowering.ended() {
+            None => {}
+            Some(Lowered::Changed) => self.stage = Stage::Ended(Ending::Restart),
+            Some(Lowered::Unchanged(stamp)) => self.plan_lowers(room, stamp),
+        }
+    }
+}

@@ -1,0 +1,225 @@
+//! How an attempt brings numbers into the hand, and vouches for the cells that it writes.
+ghost use Rattle.std.specs.Prelude.{◌≡◌, ◌≢◌, ℕ, ◌+◌, ◌<◌, ◌≤◌, length, None, Some, true, false};
+ghost use Rattle.art_attempt.specs.Attempts.{EndsWithin, Fits, HasSupplies, HasVouched, IsKnown, IsRoom, IsSameTry, WantsNumbers, asks_at, deed_at};
+ghost use Rattle.art_attempt.specs.Attempts.{ended_at, is_free, supply_asks, vouching_asks};
+ghost use Rattle.art_attempt.specs.Cases.{IsCaseOf};
+ghost use Rattle.art_attempt.specs.declared.attempts.Ending.TheVariants.{Restart as anew, Overlaps as overlaps};
+ghost use Rattle.art_attempt.specs.declared.attempts.Stage.TheVariants as stages;
+ghost use Rattle.art_find.specs.Findings.{IsStanding};
+ghost use Rattle.art_gather.specs.Reserve.{ended_at as reserved_at};
+ghost use Rattle.art_gather.specs.Vouching.{ended_at as vouched_at};
+ghost use Rattle.art_gather.specs.declared.reserve.Reserved.TheVariants.{Full as full};
+ghost use Rattle.art_gather.specs.declared.vouching.Vouched.TheVariants.{Changed as changed_cell};
+ghost use Rattle.art_machine.specs.Acting.{Answers as ActionAnswers, goes_on, telling};
+ghost use Rattle.art_machine.specs.Turns.{Spends};
+ghost use Rattle.art_machine.specs.declared.actions.Action.{Action as ActionOf};
+ghost use Rattle.art_step.specs.declared.views.Sizes.{Sizes};
+ghost use Rattle.art_step.specs.declared.views.View.{View};
+
+use crate::{Attempt, Case, Ending, Job, Room, Stage};
+use art_cell::Pool;
+use art_gather::{Reserve, Reserved, Vouched, Vouching};
+use art_machine::{Action, Answer};
+use art_step::EpochSteps;
+
+impl Attempt {
+    ghost use Rattle.std.specs.Prelude.{IfSome};
+    ghost use Rattle.art_attempt.specs.Asking.{IsAllowed};
+    ghost use Rattle.art_attempt.specs.declared.rooms.Room.{Room as RoomOf};
+    ghost use Rattle.art_step.specs.declared.deeds.Deed.{Deed};
+
+    /// What comes next where numbers are brought into the hand.
+    #[inline(always)]
+    pub(crate) fn supply_next(&self, room: &Room) -> Option<Action>
+        requires short { length room.now.row.key.items ≤ 64 }
+        ensures asks { result ≡ asks_at stages.Reserve self.now room.now }
+        ensures allowed { (z : Sizes) (u v : View) (d : Deed) → HasSupplies z u self.now room.now v →
+            IfSome result (IsAllowed z d room.now.change v) }
+        ensures going { (z : Sizes) (u v : View) → HasSupplies z u self.now room.now v → reserved_at self.now.reserve ≡ None →
+            (a : ActionOf) × (result ≡ Some a) }
+    {
+        let key = room.row.key.as_slice();
+        self.reserve.next(key, room.row.value, &room.stock)
+    }
+
+    /// In this case numbers are wanted: they are brought into the hand.
+    pub(crate) fn supply(&mut self, room: &mut Room, case: Case)
+        requires { (z : Sizes) × (u : View) × (v : View) × IsRoom z room.old × EndsWithin z u 1203 room.old v }
+        ensures kept { IsSameTry self.old self.new room.old room.new }
+        ensures not_anew { ended_at self.new ≢ Some anew }
+        ensures not_overlaps { ended_at self.new ≢ Some overlaps }
+        ensures free { is_free self.new ≡ true }
+        ensures fits { (z : Sizes) (u v : View) → IsRoom z room.old → EndsWithin z u 1203 room.old v → IsCaseOf self.old.job case →
+            IsStanding z room.old.row.key.items self.old.position room.old.read_set v →
+            WantsNumbers z u case self.old.position room.old v → Fits z u self.new room.new v }
+    {
+        self.case = case;
+        let demand = case.demand(room.sizes, &self.position.verdict);
+        self.reserve = Reserve::new(&demand, &mut room.stock);
+        self.supply_on(room);
+    }
+
+    /// A number was sought, or a word of the leaf written.
+    #[inline(always)]
+    pub(crate) fn supply_told(&mut self, room: &mut Room, answer: Answer)
+        requires { (z : Sizes) × (u : View) × (v : View) × (w : View) × (asked : ActionOf) × IsRoom z room.old ×
+            HasSupplies z u self.old room.old v × (supply_asks self.old room.old ≡ Some asked) × ActionAnswers z None asked answer v w }
+        ensures kept { IsSameTry self.old self.new room.old room.new }
+        ensures not_anew { ended_at self.new ≢ Some anew }
+        ensures not_overlaps { ended_at self.new ≢ Some overlaps }
+        ensures free { is_free self.new ≡ true }
+        ensures fits { (z : Sizes) (u v w : View) (asked : ActionOf) → IsRoom z room.old → HasSupplies z u self.old room.old v →
+            supply_asks self.old room.old ≡ Some asked → ActionAnswers z None asked answer v w → Fits z u self.new room.new w }
+    {
+        let demand = self.case.demand(room.sizes, &self.position.verdict);
+        self.reserve.told(&demand, &mut room.stock, answer);
+        self.supply_on(room);
+    }
+
+    /// Brings numbers into the hand, as long as more than one turn is left.
+    pub(crate) fn supply_all<S: EpochSteps>(
+        &mut self,
+        steps: &mut S,
+        room: &mut Room,
+        left: &mut u32,
+    )
+        requires stage { self.old.stage ≡ stages.Reserve }
+        requires short { length room.old.row.key.items ≤ 64 }
+        requires turn { 0 < left.old }
+        requires fits { (u : View) × Fits (S.sizes steps.old) u self.old room.old (S.view steps.old) }
+        ensures only { S.only steps.old steps.new }
+        ensures kept { IsSameTry self.old self.new room.old room.new }
+        ensures free { is_free self.new ≡ true }
+        ensures not_overlaps { ended_at self.new ≢ Some overlaps }
+        ensures turns { Spends (S.view steps.old) (S.view steps.new) left.old left.new }
+        ensures fits { (u : View) → Fits (S.sizes steps.old) u self.old room.old (S.view steps.old) →
+            Fits (S.sizes steps.old) u self.new room.new (S.view steps.new) }
+    {
+        let demand = self.case.demand(room.sizes, &self.position.verdict);
+        let key = room.row.key.as_slice();
+        self.reserve
+            .run(steps, &demand, key, room.row.value, &mut room.stock, left);
+        self.supply_on(room);
+    }
+
+    /// It goes on; or all is in hand, and the cells are vouched for; or a pool gave no number.
+    #[inline(always)]
+    fn supply_on(&mut self, room: &Room)
+        ensures job { self.new.job ≡ self.old.job }
+        ensures not_anew { ended_at self.new ≢ Some anew }
+        ensures not_overlaps { ended_at self.new ≢ Some overlaps }
+        ensures free { is_free self.new ≡ true }
+        ensures fits { (z : Sizes) (u v : View) → IsRoom z room.now → HasSupplies z u self.old room.now v → Fits z u self.new room.now v }
+    {
+        match self.reserve.ended() {
+            None => self.stage = Stage::Reserve,
+            Some(Reserved::Ready) => self.vouch(room, self.case),
+            Some(Reserved::Full(pool)) => self.lack(room, pool),
+        }
+    }
+
+    /// No number of the pool was found: a leaf that was to come is refused, and one that goes does so alone.
+    fn lack(&mut self, room: &Room, pool: Pool)
+        ensures job { self.new.job ≡ self.old.job }
+        ensures not_anew { ended_at self.new ≢ Some anew }
+        ensures not_overlaps { ended_at self.new ≢ Some overlaps }
+        ensures free { is_free self.new ≡ true }
+        ensures fits { (z : Sizes) (u v : View) → IsRoom z room.now → HasSupplies z u self.old room.now v →
+            reserved_at self.old.reserve ≡ Some (full pool) → Fits z u self.new room.now v }
+    {
+        match self.job {
+            Job::Insert => self.stage = Stage::Ended(Ending::Full(pool)),
+            Job::Remove => self.vouch(room, Case::DropLeaf),
+        }
+    }
+
+    /// What is changed is known: the cells that are written are vouched for.
+    pub(crate) fn vouch(&mut self, room: &Room, case: Case)
+        ensures job { self.new.job ≡ self.old.job }
+        ensures not_anew { ended_at self.new ≢ Some anew }
+        ensures not_overlaps { ended_at self.new ≢ Some overlaps }
+        ensures free { is_free self.new ≡ true }
+        ensures fits { (z : Sizes) (u v : View) → IsRoom z room.now → EndsWithin z u 21700 room.now v → IsCaseOf self.old.job case →
+            IsStanding z room.now.row.key.items self.old.position room.now.read_set v →
+            IsKnown z u case self.old.position room.now v → Fits z u self.new room.now v }
+    {
+        self.case = case;
+        let both = case.writes_above(&self.position.verdict);
+        self.vouching = Vouching::new(&self.position, both, &room.read_set);
+        self.stage = Stage::Vouching;
+    }
+
+    /// What comes next where the cells are vouched for.
+    #[inline(always)]
+    pub(crate) fn vouch_next(&self) -> Option<Action>
+        ensures asks { (r : RoomOf) → result ≡ asks_at stages.Vouching self.now r }
+        ensures allowed { (z : Sizes) (u v : View) (r : RoomOf) (d : Deed) → HasVouched z u self.now r v →
+            IfSome result (IsAllowed z d r.change v) }
+        ensures going { (z : Sizes) (u v : View) (r : RoomOf) → HasVouched z u self.now r v → vouched_at self.now.vouching ≡ None →
+            (a : ActionOf) × (result ≡ Some a) }
+    {
+        self.vouching.next(&self.position)
+    }
+
+    /// A word was read, or a cell was checked.
+    pub(crate) fn vouch_told(&mut self, room: &mut Room, answer: Answer)
+        requires stage { self.old.stage ≡ stages.Vouching }
+        requires told { (z : Sizes) × (u : View) × (v : View) × (w : View) × (asked : ActionOf) × IsRoom z room.old ×
+            HasVouched z u self.old room.old v × (vouching_asks self.old ≡ Some asked) ×
+            ActionAnswers z (telling (deed_at self.old room.old)) asked answer v w }
+        ensures kept { IsSameTry self.old self.new room.old room.new }
+        ensures anew { ended_at self.new ≡ Some anew → goes_on answer ≡ false }
+        ensures not_overlaps { ended_at self.new ≢ Some overlaps }
+        ensures free { is_free self.new ≡ true }
+        ensures fits { (z : Sizes) (u v w : View) (asked : ActionOf) → IsRoom z room.old → HasVouched z u self.old room.old v →
+            vouching_asks self.old ≡ Some asked → ActionAnswers z (telling (deed_at self.old room.old)) asked answer v w →
+            Fits z u self.new room.new w }
+    {
+        let both = self.case.writes_above(&self.position.verdict);
+        self.vouching
+            .told(&self.position, both, &mut room.read_set, answer);
+        self.vouch_on(room);
+    }
+
+    /// Reads and checks the cells, as long as more than one turn is left.
+    pub(crate) fn vouch_all<S: EpochSteps>(
+        &mut self,
+        steps: &mut S,
+        room: &mut Room,
+        left: &mut u32,
+    )
+        requires stage { self.old.stage ≡ stages.Vouching }
+        requires turn { 0 < left.old }
+        requires fits { (u : View) × Fits (S.sizes steps.old) u self.old room.old (S.view steps.old) }
+        ensures only { S.only steps.old steps.new }
+        ensures kept { IsSameTry self.old self.new room.old room.new }
+        ensures free { is_free self.new ≡ true }
+        ensures not_overlaps { ended_at self.new ≢ Some overlaps }
+        ensures turns { Spends (S.view steps.old) (S.view steps.new) left.old left.new }
+        ensures fits { (u : View) → Fits (S.sizes steps.old) u self.old room.old (S.view steps.old) →
+            Fits (S.sizes steps.old) u self.new room.new (S.view steps.new) }
+    {
+        let both = self.case.writes_above(&self.position.verdict);
+        self.vouching
+            .run(steps, &self.position, both, &mut room.read_set, left);
+        self.vouch_on(room);
+    }
+
+    /// It goes on; or all that is written was seen, and the change is planned; or a cell was changed.
+    #[inline(always)]
+    fn vouch_on(&mut self, room: &mut Room)
+        requires stage { self.old.stage ≡ stages.Vouching }
+        requires vouched { (z : Sizes) × (u : View) × (v : View) × IsRoom z room.old × HasVouched z u self.old room.old v }
+        ensures kept { IsSameTry self.old self.new room.old room.new }
+        ensures anew { ended_at self.new ≡ Some anew → vouched_at self.old.vouching ≡ Some changed_cell }
+        ensures not_overlaps { ended_at self.new ≢ Some overlaps }
+        ensures free { is_free self.new ≡ true }
+        ensures fits { (z : Sizes) (u v : View) → IsRoom z room.old → HasVouched z u self.old room.old v → Fits z u self.new room.new v }
+    {
+        match self.vouching.ended() {
+            None => {}
+            Some(Vouched::Changed) => self.stage = Stage::Ended(Ending::Restart),
+            Some(Vouched::Unchanged) => self.plan(room),
+        }
+    }
+}
