@@ -168,7 +168,7 @@ pub record LeafGoes (z : Sizes) (u : View) (c : Case) (t : Position) (r : Room) 
   pub told : IsTold z c t r.read_set r.gone u v
   pub locks : targets r.change ≡ locks_of c
 
--- the case is the one that was found: a leaf comes as its place tells, or goes so
+-- a leaf that goes does so in the case that was found; of one that comes nothing is said here but in its effects
 abbrev pub IsWay : Sizes → View → Case → Position → Room → View → Type 0
 IsWay z u NewLeaf t r v = ⊤
 IsWay z u c t r v = LeafGoes z u c t r v

@@ -296,7 +296,8 @@ IsRefusedBy z u m r (Full pool) v = IsFull z u m.position r pool v
 IsRefusedBy z u m r Overlaps v = IsOverlap z u m.position r v
 IsRefusedBy z u m r o v = ⊤
 
--- where the change was made, or given up for a counter: it is the one that what was read and found tells, by what the pass has at the end
+-- where the change was made, or given up for a counter: of a removal it is the one that what was read and found tells, by what the pass
+-- has at the end; of an insert it has the effects of a place that is not tied to the view
 abbrev pub IsChangedBy : Sizes → View → Attempt → Room → Outcome → View → Type 0
 IsChangedBy z u m r New v = GoesBy z u m.position m.case r v
 IsChangedBy z u m r (Gone value) v = GoesBy z u m.position m.case r v
