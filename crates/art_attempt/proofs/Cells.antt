@@ -9,10 +9,10 @@ use Rattle.art_attempt.proofs.Chosen.{known_on, stood_now}
 use Rattle.art_attempt.proofs.Finds.{within_so}
 use Rattle.art_attempt.proofs.Looks.{no_fewer}
 use Rattle.art_attempt.proofs.Tries.{checked_since, still_reads, stock_reads}
-use Rattle.art_attempt.specs.Attempts.{EndsSo, EndsWithin, HasHand, HasVouched, IsChecked}
-use Rattle.art_attempt.specs.Cases.{HasLeaf, IsLockedBy, both_of}
+use Rattle.art_attempt.specs.Attempts.{EndsSo, EndsWithin, HasHand, HasVouched}
+use Rattle.art_attempt.specs.Cases.{HasLeaf, IsLockedBy, LocksChecked, both_of}
 use Rattle.art_attempt.specs.Rooms.{number_for}
-use Rattle.art_attempt.specs.Trying.{HasChecked, HasSpent, IsKey, IsLater, StillTries, StoodAtCheck}
+use Rattle.art_attempt.specs.Trying.{HasSpent, IsKey, IsLater, StillTries, StoodAtCheck, WasChecked}
 use Rattle.art_attempt.specs.declared.attempts.Attempt.{Attempt}
 use Rattle.art_attempt.specs.declared.cases.Case.{Case}
 use Rattle.art_attempt.specs.declared.cases.Case.TheVariants.{NewLeaf, DropLeaf, Shrink, MergeLeaf, MergeNode, Torn}
@@ -44,12 +44,13 @@ use Rattle.art_machine.specs.declared.actions.Answer.{Answer}
 use Rattle.art_make.proofs.PackedLeaves.{packed_leaf}
 use Rattle.art_make.specs.LeafWriter.{IsPacked}
 use Rattle.art_plan.specs.ChooseInsert.Needs.{needs_of}
-use Rattle.art_plan.specs.ChooseInsert.Plans.{HasNeeded, IsLockedAt}
+use Rattle.art_plan.specs.ChooseInsert.Plans.{HasNeeded, IsLockedAt, LocksOnly}
 use Rattle.art_plan.specs.ChooseInsert.Seen.{IsSeen as IsSeenWhole}
 use Rattle.art_plan.specs.ChooseRemove.Losses.{loss_at}
 use Rattle.art_plan.specs.ChooseRemove.Plans.{HasSmaller, IsEitherAt, IsNodeAt}
 use Rattle.art_plan.specs.ChooseRemove.Seen.{AreSeen, IsSeen}
 use Rattle.art_plan.specs.Insert.Cases.{IsInHand}
+use Rattle.art_plan.specs.declared.changes.Change.{Change}
 use Rattle.art_plan.specs.declared.choose_remove.losses.Loss.{Loss}
 use Rattle.art_plan.specs.declared.choose_remove.losses.Loss.TheVariants as loss
 use Rattle.art_step.specs.declared.deeds.Deed.{Deed}
@@ -169,30 +170,33 @@ module _ (z : Sizes) (u : View) (m : Attempt) (r : Room) (v : View) (h : HasVouc
     vouched_is = (vouched_reads Unchanged is).1
 
     -- a cell that was vouched for was checked in this attempt
-    vouched_checked : (x : Stamp) → CheckedSince z k t r.read_set h.early x v → HasChecked z u k t r.read_set x v
+    vouched_checked : (x : Stamp) → CheckedSince z k t r.read_set h.early x v → WasChecked u x v
     vouched_checked x checked = checked_since u h.early h.base z k t r.read_set x v checked
 
-    node_checked : (x : Stamp) → IsNodeAt t x → HasChecked z u k t r.read_set x v
-    node_checked x at = subst (λ (y : Stamp). HasChecked z u k t r.read_set y v) (sym at) (vouched_checked t.stamp vouched_is.here)
+    node_checked : (x : Stamp) → IsNodeAt t x → WasChecked u x v
+    node_checked x at = subst (λ (y : Stamp). WasChecked u y v) (sym at) (vouched_checked t.stamp vouched_is.here)
 
-    above_checked : both ≡ true → (a : Above) → t.above ≡ Some a → (x : Stamp) → x ≡ a.stamp → HasChecked z u k t r.read_set x v
+    above_checked : both ≡ true → (a : Above) → t.above ≡ Some a → (x : Stamp) → x ≡ a.stamp → WasChecked u x v
     above_checked wants a at x same =
-        subst (λ (y : Stamp). HasChecked z u k t r.read_set y v) (sym same) (vouched_checked a.stamp (vouched_is.above a (ap (λ (b : Bool). written_above b t) wants ∙ at)))
+        subst (λ (y : Stamp). WasChecked u y v) (sym same) (vouched_checked a.stamp (vouched_is.above a (ap (λ (b : Bool). written_above b t) wants ∙ at)))
 
-    either_checked : both ≡ true → (x : Stamp) → IsEitherAt t x → HasChecked z u k t r.read_set x v
+    either_checked : both ≡ true → (x : Stamp) → IsEitherAt t x → WasChecked u x v
     either_checked wants x = ⊎_elim (node_checked x) (λ (q : (a : Above) × (t.above ≡ Some a) × (x ≡ a.stamp)). above_checked wants q.0 q.1 x q.2)
 
-    new_checked : m.case ≡ NewLeaf → (x : Stamp) → IsLockedAt t x → HasChecked z u k t r.read_set x v
+    new_checked : m.case ≡ NewLeaf → (x : Stamp) → IsLockedAt t x → WasChecked u x v
     new_checked case x = ⊎_elim (node_checked x)
         (λ (q : (a : Above) × (t.above ≡ Some a) × ((needs_of t.verdict).above ≡ true) × (x ≡ a.stamp)). above_checked (ap (λ (c : Case). both_of c t.verdict) case ∙ q.2) q.0 q.1 x q.3)
 
-    pub vouched_each : (c : Case) → m.case ≡ c → NoLower c → (x : Stamp) → IsLockedBy c t m.lowering x → IsChecked z u c t r x v
+    vouched_each : (c : Case) → m.case ≡ c → NoLower c → (x : Stamp) → IsLockedBy c t x → WasChecked u x v
     vouched_each NewLeaf at none x locked = new_checked at x locked
     vouched_each DropLeaf at none x locked = node_checked x locked
     vouched_each (Shrink layout) at none x locked = either_checked (ap (λ (c : Case). both_of c t.verdict) at) x locked
     vouched_each (MergeLeaf other) at none x locked = either_checked (ap (λ (c : Case). both_of c t.verdict) at) x locked
     vouched_each (MergeNode byte n) at none x locked = absurd none
     vouched_each Torn at none x locked = absurd locked
+
+    pub vouched_locks : (c : Case) → m.case ≡ c → NoLower c → (change : Change) → LocksOnly (IsLockedBy c t) change → LocksOnly (LocksChecked u c t v) change
+    vouched_locks c at none change only i x is = let by = only i x is in record { by = by; checked = vouched_each c at none x.stamp by }
 
     seen_key : IsSeen z k t r.read_set
     seen_key = (was_vouched z k t r.read_set h.early t.stamp v vouched_is.here, vouched_is.whole)

@@ -20,8 +20,8 @@ use Rattle.art_attempt.specs.declared.rooms.Room.{Room}
 use Rattle.art_make.specs.Apply.{KeepsCheck}
 use Rattle.art_attempt.proofs.LastCheck.{none_stays, stood_stays}
 use Rattle.art_gather.specs.Reserve.{StayFound}
-use Rattle.art_attempt.specs.Attempts.{GoesBy, IsKnown, WantsNumbers}
-use Rattle.art_attempt.specs.Cases.{HasLeaf, HasNoSmaller, IsCaseOf, IsChosen, IsNeverSeen, IsTold, IsWay, LeafGoes, LeavesOther, MayStay, demand_of, effects_of, leaves_by}
+use Rattle.art_attempt.specs.Attempts.{GoesBy, IsExhausted, IsKnown, WantsNumbers}
+use Rattle.art_attempt.specs.Cases.{HasLeaf, HasNoSmaller, IsCaseOf, IsChosen, IsNeverSeen, IsTold, IsWay, LeafGoes, LeavesOther, LocksChecked, MayStay, demand_of, effects_of, leaves_by}
 use Rattle.art_attempt.specs.declared.attempts.Job.{Job}
 use Rattle.art_attempt.specs.declared.attempts.Job.TheVariants.{Insert, Remove}
 use Rattle.art_attempt.specs.declared.cases.Case.{Case}
@@ -233,7 +233,7 @@ module _ (z : Sizes) (u : View) (t : Position) where
     }
 
     way_since : (c : Case) → IsWay z b c t had v → IsWay z u c t r w
-    way_since case.NewLeaf way = tt
+    way_since case.NewLeaf way = record { stood = stood_stays v w checked z u b r.row.key.items t r.read_set before more way.stood; comes = way.comes }
     way_since case.DropLeaf way = leaf_since case.DropLeaf way
     way_since (case.Shrink layout) way = leaf_since (case.Shrink layout) way
     way_since (case.MergeLeaf other) way = leaf_since (case.MergeLeaf other) way
@@ -242,6 +242,29 @@ module _ (z : Sizes) (u : View) (t : Position) where
 
     pub goes_since : (c : Case) → GoesBy z b t c had v → GoesBy z u t c r w
     goes_since c goes = record { told = way_since c goes.told; effects = goes.effects }
+
+    -- and so does a cell that would be locked
+    locks_since : (c : Case) (x : Stamp) → LocksChecked b c t v x → LocksChecked u c t w x
+    locks_since c x locks =
+        let after = locks.checked.after in
+        let done = locks.checked.done in
+        record {
+          by = locks.by;
+          checked = record { step = locks.checked.step; after = omega (arith, before, after); done = omega (arith, done, more); found = found _ locks.checked.found };
+        }
+
+    pub exhausted_since : (j : Job) (c : Case) (x : Cell) → IsExhausted z b j t c had x v → IsExhausted z u j t c r x w
+    exhausted_since j c x e = record {
+      case = e.case;
+      deed = e.deed;
+      goes = goes_since c e.goes;
+      index = e.index;
+      target = e.target;
+      is = e.is;
+      cell_is = e.cell_is;
+      at_end = e.at_end;
+      locks = locks_since c e.target.stamp e.locks;
+    }
 
   pub goes_later : (c : Case) (r : Room) (v w : View) → KeepsCheck v w → GoesBy z u t c r v → GoesBy z u t c r w
   goes_later c r v w keeps goes = goes_since u r r.stock v w (omega arith) keeps.steps keeps.found keeps.checked c goes

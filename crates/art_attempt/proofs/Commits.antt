@@ -5,8 +5,8 @@ use Rattle.std.specs.Option.{option_map}
 use Rattle.arrayvec.specs.ArrayVec.{ArrayVec}
 use Rattle.art_attempt.proofs.Chosen.{goes_later, goes_since, leaf_effects, leaf_way}
 use Rattle.art_attempt.proofs.Tries.{event_since, limbo_committed, rest_committed, still_fails, still_later, stock_fails}
-use Rattle.art_attempt.specs.Attempts.{EndFits, EndsSo, GoesBy, HasMade, HasWritten, IsChecked, MayMake, given_up}
-use Rattle.art_attempt.specs.Cases.{HasLeaf, IsCaseOf, IsLockedBy, IsTold, leaves_by, locks_of, made_by}
+use Rattle.art_attempt.specs.Attempts.{EndFits, EndsSo, GoesBy, HasMade, HasWritten, MayMake, given_up}
+use Rattle.art_attempt.specs.Cases.{HasLeaf, IsCaseOf, IsTold, LocksChecked, leaves_by, locks_of, made_by}
 use Rattle.art_attempt.specs.Rooms.{spent_by}
 use Rattle.art_attempt.specs.Trying.{StoodAtCheck}
 use Rattle.art_attempt.specs.declared.attempts.Attempt.{Attempt}
@@ -53,9 +53,8 @@ module _ (z : Sizes) (u : View) (m : Attempt) (r : Room) (v : View) (job : m.job
     removes : r.change.effects.deed ≡ made_by m.job r.row r.gone
     removes = ap (λ (e : Effects). e.deed) effects ∙ (ap (λ (k : ArrayVec ℕ). Done (act.Remove k) (reply.Removed r.gone.value)) leaf.key ∙ sym (ap (λ (j : Job). made_by j r.row r.gone) job))
 
-    pub leaf_may : IsPlanned z v r.change → IsTold z c m.position r.read_set r.gone u v → targets r.change ≡ locks_of c → LocksOnly (IsLockedBy c m.position m.lowering) r.change
-        → ((x : Stamp) → IsLockedBy c m.position m.lowering x → IsChecked z u c m.position r x v) → MayMake z u m r v
-    leaf_may planned told locks only each = record {
+    pub leaf_may : IsPlanned z v r.change → IsTold z c m.position r.read_set r.gone u v → targets r.change ≡ locks_of c → LocksOnly (LocksChecked u c m.position v) r.change → MayMake z u m r v
+    leaf_may planned told locks each = record {
       case = subst (λ (j : Job). IsCaseOf j m.case) (sym job) (subst (IsCaseOf Remove) (sym is) goes);
       planned = planned;
       leaf = none_comes;
@@ -64,10 +63,7 @@ module _ (z : Sizes) (u : View) (m : Attempt) (r : Room) (v : View) (job : m.job
         told = leaf_way z u m.position r v c goes (record { leaf = leaf; stood = stood; told = told; locks = locks });
         effects = effects ∙ sym (leaf_effects z u m.position r v c goes);
       });
-      locks = record {
-        only = subst (λ (d : Case). LocksOnly (IsLockedBy d m.position m.lowering) r.change) (sym is) only;
-        each = subst (λ (d : Case). (x : Stamp) → IsLockedBy d m.position m.lowering x → IsChecked z u d m.position r x v) (sym is) each;
-      };
+      locks = subst (λ (d : Case). LocksOnly (LocksChecked u d m.position v) r.change) (sym is) each;
     }
 
 -- what is committed is of the row's key
@@ -91,7 +87,10 @@ module _ (z : Sizes) (u : View) (m : Attempt) (r : Room) (v : View) (h : HasMade
         later = record { steps = omega (arith, before, more); failures = omega (arith, failed, again) };
         spent = h.spent;
         case = h.case;
-        locks = record { only = h.locks.only; each = h.locks.each };
+        locks = λ i x at.
+            let lock = h.locks i x at in
+            let done = lock.checked.done in
+            record { by = lock.by; checked = record { step = lock.checked.step; after = lock.checked.after; done = omega (arith, done, more); found = keeps.found _ lock.checked.found } };
         goes = goes_later z u m.position m.case r v w keeps h.goes;
         has = h.has;
         plain = h.plain;
@@ -144,17 +143,17 @@ module _ (z : Sizes) (u : View) (m : Attempt) (r : Room) (v : View) (h : HasMade
             let before = h.base.later.failures in
             (so (fault.Changed c) failed, omega (arith, more, before))
         by_fault (fault.Exhausted c) failed =
-            let locked = h.locks.only failed.index failed.target failed.is in (
+            (
               so (fault.Exhausted c) failed,
               record {
-                early = h.early;
-                base = h.base;
-                later = h.later;
                 case = h.case;
                 deed = h.deed;
                 goes = h.goes;
-                failed = failed;
-                locked = locked;
-                checked = h.locks.each failed.target.stamp locked;
+                index = failed.index;
+                target = failed.target;
+                is = failed.is;
+                cell_is = failed.fails.0;
+                at_end = failed.fails.1;
+                locks = h.locks failed.index failed.target failed.is;
               },
             )

@@ -8,10 +8,10 @@ use Rattle.art_attempt.proofs.Cells.{reading_so}
 use Rattle.art_attempt.proofs.Chosen.{leaves_same, stood_now}
 use Rattle.art_attempt.proofs.Finds.{within_so}
 use Rattle.art_attempt.proofs.Joins.{may_merge}
-use Rattle.art_attempt.proofs.Tries.{checked_since}
-use Rattle.art_attempt.specs.Attempts.{EndsSo, EndsWithin, HasLower, IsChecked}
-use Rattle.art_attempt.specs.Cases.{IsLockedBy, LeavesOther}
-use Rattle.art_attempt.specs.Trying.{HasChecked, StoodAtCheck}
+use Rattle.art_attempt.proofs.Tries.{below_since, checked_since}
+use Rattle.art_attempt.specs.Attempts.{EndsSo, EndsWithin, HasLower}
+use Rattle.art_attempt.specs.Cases.{LeavesOther, LocksChecked}
+use Rattle.art_attempt.specs.Trying.{StoodAtCheck, WasChecked}
 use Rattle.art_attempt.specs.declared.attempts.Attempt.{Attempt}
 use Rattle.art_attempt.specs.declared.cases.Case.{Case}
 use Rattle.art_attempt.specs.declared.cases.Case.TheVariants as case
@@ -169,35 +169,25 @@ module _ (z : Sizes) (u : View) (m : Attempt) (r : Room) (v : View) (h : HasLowe
   lower_ended = (ended_fits z r.row.key.items m.position n m.lowering r.read_set r.lower h.early v x ended knows_lower.1).stage
 
   -- each cell that is locked was checked in this attempt
-  lower_vouched : (y : Stamp) → CheckedSince z r.row.key.items m.position r.read_set h.early y v → HasChecked z u r.row.key.items m.position r.read_set y v
+  lower_vouched : (y : Stamp) → CheckedSince z r.row.key.items m.position r.read_set h.early y v → WasChecked u y v
   lower_vouched y checked = checked_since u h.early h.base z r.row.key.items m.position r.read_set y v checked
 
-  either_lower : (y : Stamp) → IsEitherAt m.position y → HasChecked z u r.row.key.items m.position r.read_set y v
+  either_lower : (y : Stamp) → IsEitherAt m.position y → WasChecked u y v
   either_lower y = ⊎_elim
-      (λ (at : IsNodeAt m.position y). subst (λ (a : Stamp). HasChecked z u r.row.key.items m.position r.read_set a v) (sym at) (lower_vouched m.position.stamp lower_ended.1.here))
-      (λ (q : (a : Above) × (m.position.above ≡ Some a) × (y ≡ a.stamp)).
-      subst (λ (a : Stamp). HasChecked z u r.row.key.items m.position r.read_set a v) (sym q.2) (lower_vouched q.0.stamp (lower_ended.1.above q.0 q.1)))
+      (λ (at : IsNodeAt m.position y). subst (λ (a : Stamp). WasChecked u a v) (sym at) (lower_vouched m.position.stamp lower_ended.1.here))
+      (λ (q : (a : Above) × (m.position.above ≡ Some a) × (y ≡ a.stamp)). subst (λ (a : Stamp). WasChecked u a v) (sym q.2) (lower_vouched q.0.stamp (lower_ended.1.above q.0 q.1)))
 
-  lower_itself : IsChecked z u (case.MergeNode byte n) m.position r x v
-  lower_itself = inr (record { early = h.early; base = h.base; lower = n; checked = lower_ended.2.was })
-
-  abbrev unchanged_in : Lowered → Stamp
-  unchanged_in (lowered.Unchanged y) = y
-  unchanged_in lowered.Changed = x
-
-  same_lower : (y : Stamp) → lowering.ended_at m.lowering ≡ Some (lowered.Unchanged y) → x ≡ y
-  same_lower y at = ap unchanged_in (same_Some {A = Lowered} (lowered.Unchanged x) (lowered.Unchanged y) (sym ended ∙ at))
-
-  pub lower_each : (y : Stamp) → IsLockedBy (case.MergeNode byte n) m.position m.lowering y → IsChecked z u (case.MergeNode byte n) m.position r y v
-  lower_each y = ⊎_elim
-      (λ (at : IsEitherAt m.position y). inl (either_lower y at))
-      (λ (at : lowering.ended_at m.lowering ≡ Some (lowered.Unchanged y)). subst (λ (a : Stamp). IsChecked z u (case.MergeNode byte n) m.position r a v) (same_lower y at) lower_itself)
+  lower_itself : WasChecked u x v
+  lower_itself = below_since u h.early h.base z r.row.key.items m.position r.read_set n x r.lower v lower_ended.2.was
 
   -- and a plan of it locks no others
-  pub lower_locks : (c : Change) → LocksOnly (IsAnyAt m.position child) c → LocksOnly (IsLockedBy (case.MergeNode byte n) m.position m.lowering) c
+  pub lower_locks : (c : Change) → LocksOnly (IsAnyAt m.position child) c → LocksOnly (LocksChecked u (case.MergeNode byte n) m.position v) c
   lower_locks c only i target at = ⊎_elim
-      (λ (e : IsEitherAt m.position target.stamp). inl e)
-      (λ (e : target.stamp ≡ x). inr (subst (λ (a : Stamp). lowering.ended_at m.lowering ≡ Some (lowered.Unchanged a)) (sym e) ended))
+      (λ (e : IsEitherAt m.position target.stamp). record { by = inl e; checked = either_lower target.stamp e })
+      (λ (e : target.stamp ≡ x). record {
+        by = inr (ap (λ (a : Stamp). a.cell) e ∙ lower_ended.2.below.on.cell);
+        checked = subst (λ (a : Stamp). WasChecked u a v) (sym e) lower_itself;
+      })
       (only i target at)
 
   -- and it is not refused

@@ -1,10 +1,10 @@
 -- What an attempt of a write asks, and what it knows between two of its steps.
-use Rattle.std.specs.Prelude.{◌≡◌, ◌⊎◌, ℕ, ◌-◌, ◌<◌, ◌≤◌, ◌+◌, ◌++◌, List, [], Option, Some, None, Bool, true, false, ◌==◌, if◌then◌else◌}
+use Rattle.std.specs.Prelude.{◌≡◌, ◌⊎◌, ℕ, ◌-◌, ◌*◌, ◌<◌, ◌≤◌, ◌+◌, ◌++◌, List, [], Option, Some, None, Bool, true, false, ◌==◌, if◌then◌else◌}
 use Rattle.std.specs.Option.{unwrap_or}
 use Rattle.std.specs.Prelude.{Result, Ok, Err, ⊤}
-use Rattle.art_attempt.specs.Cases.{IsCaseOf, IsChosen, IsLockedBy, LeavesOther, both_of, demand_of, effects_of, made_by}
+use Rattle.art_attempt.specs.Cases.{IsCaseOf, IsChosen, LeavesOther, LocksChecked, both_of, demand_of, effects_of, made_by}
 use Rattle.art_attempt.specs.Cases.{ComesThere, HasLeaf, IsWay}
-use Rattle.art_attempt.specs.Trying.{HasChecked, HasSpent, IsCheckOf, IsKey, IsLater, StillTries, StoodAtCheck}
+use Rattle.art_attempt.specs.Trying.{HasSpent, IsCheckOf, IsKey, IsLater, StillTries, StoodAtCheck}
 use Rattle.art_attempt.specs.declared.attempts.Attempt.{Attempt}
 use Rattle.art_attempt.specs.declared.attempts.Ending.{Ending}
 use Rattle.art_attempt.specs.declared.attempts.Ending.TheVariants.{New, Present, Gone, Absent, Full, Exhausted, Overlaps, Restart}
@@ -33,30 +33,29 @@ use Rattle.art_find.specs.declared.verdicts.Verdict.{Verdict}
 use Rattle.art_find.specs.declared.verdicts.Verdict.TheVariants as verdict
 use Rattle.art_frame.specs.Stocks.{HasStock}
 use Rattle.art_gather.specs.Lowering as lowering
-use Rattle.art_gather.specs.Lowering.{CheckedBelow}
 use Rattle.art_gather.specs.Reserve as reserve
 use Rattle.art_gather.specs.Reserve.{HasAll, HasNone}
 use Rattle.art_gather.specs.Vouching as vouching
 use Rattle.art_gather.specs.Vouching.{IsVouching}
-use Rattle.art_gather.specs.declared.lowering.Lowering.{Lowering}
 use Rattle.art_machine.specs.Acting.{goes_on, passed}
 use Rattle.art_machine.specs.declared.actions.Action.{Action}
 use Rattle.art_machine.specs.declared.actions.Action.TheVariants.{Check, Settle}
 use Rattle.art_machine.specs.declared.actions.Answer.{Answer}
 use Rattle.art_make.specs.Apply as apply
-use Rattle.art_make.specs.Apply.{HasFailed, fault_of, is_begun, most_steps}
+use Rattle.art_make.specs.Apply.{fault_of, is_begun, most_steps}
 use Rattle.art_make.specs.declared.apply.Apply.{Apply}
 use Rattle.art_model.specs.declared.commands.Answer.TheVariants as reply
-use Rattle.art_plan.specs.Changes.{IsPlanned, unlinked}
+use Rattle.art_plan.specs.Changes.{IsPlanned, target_at, unlinked}
 use Rattle.art_plan.specs.ChooseInsert.Plans.{Comes, LocksOnly}
 use Rattle.art_plan.specs.ChooseRemove.Losses.{loss_at}
 use Rattle.art_plan.specs.declared.choose_remove.losses.Loss.TheVariants as loss
+use Rattle.art_plan.specs.declared.changes.Target.{Target}
 use Rattle.art_plan.specs.declared.insert.leaves.NewLeaf.{NewLeaf as Row}
 use Rattle.art_step.specs.Events.{MakesEvent}
 use Rattle.art_step.specs.Shows.{rest_of}
 use Rattle.art_step.specs.Steps.Check as check
 use Rattle.art_step.specs.Steps.Commit.{all_retired}
-use Rattle.art_step.specs.Views.{IsOnce, links_in_limbo, size_of}
+use Rattle.art_step.specs.Views.{IsOnce, last_counter, links_in_limbo, size_of}
 use Rattle.art_step.specs.declared.deeds.Act.TheVariants as act
 use Rattle.art_step.specs.declared.deeds.Deed.{Deed}
 use Rattle.art_step.specs.declared.deeds.Deed.TheVariants.{Done}
@@ -199,21 +198,6 @@ pub record EndsWithin (z : Sizes) (u : View) (n : ℕ) (r : Room) (v : View) : T
 abbrev pub EndsSo : Sizes → View → Room → View → Type 0
 EndsSo z u r v = EndsWithin z u 22900 r v
 
--- since the view u, and not after v, a check of the lower node succeeded, with the words as they are now
-pub record HasCheckedLower (z : Sizes) (u : View) (k : List ℕ) (t : Position) (read_set : ReadSet) (reads : List (Option ℕ)) (x : Stamp)
-    (v : View) : Type 0 where
-  pub early : View
-  pub base : StillTries u early
-  pub lower : NodeOf
-  pub checked : CheckedBelow z k t read_set lower early x reads v
-
--- since the view u, and not after v, a check of the stamp succeeded, with the read set as it is now; of the third cell of a merge, with
--- the words of that
-abbrev pub IsChecked : Sizes → View → Case → Position → Room → Stamp → View → Type 0
-IsChecked z u (MergeNode byte n) t r x v =
-    HasChecked z u r.row.key.items t r.read_set x v ⊎ HasCheckedLower z u r.row.key.items t r.read_set r.lower x v
-IsChecked z u c t r x v = HasChecked z u r.row.key.items t r.read_set x v
-
 -- the place is sought
 pub record IsFinding (z : Sizes) (u : View) (m : Attempt) (r : Room) (v : View) : Type 0 where
   pub early : View
@@ -306,10 +290,9 @@ pub record GoesBy (z : Sizes) (u : View) (t : Position) (c : Case) (r : Room) (v
   pub told : IsWay z u c t r v
   pub effects : r.change.effects ≡ effects_of c t r.row r.gone
 
--- what the change locks in this case is known, and each cell that it locks was checked
-pub record HasLocks (z : Sizes) (u : View) (m : Attempt) (r : Room) (v : View) : Type 0 where
-  pub only : LocksOnly (IsLockedBy m.case m.position m.lowering) r.change
-  pub each : (x : Stamp) → IsLockedBy m.case m.position m.lowering x → IsChecked z u m.case m.position r x v
+-- each cell that the change locks is one of this case, and was checked
+abbrev pub HasLocks : View → Attempt → Room → View → Type 0
+HasLocks u m r v = LocksOnly (LocksChecked u m.case m.position v) r.change
 
 -- the change of the room may be made, and is that of the case
 pub record MayMake (z : Sizes) (u : View) (m : Attempt) (r : Room) (v : View) : Type 0 where
@@ -318,7 +301,7 @@ pub record MayMake (z : Sizes) (u : View) (m : Attempt) (r : Room) (v : View) : 
   pub leaf : (l : ℕ) → r.change.effects.leaf ≡ Some l → r.stock.leaf ≡ Some l
   pub deed : r.change.effects.deed ≡ made_by m.job r.row r.gone
   pub goes : GoesBy z u m.position m.case r v
-  pub locks : HasLocks z u m r v
+  pub locks : HasLocks u m r v
 
 -- the change is made
 pub record HasMade (z : Sizes) (u : View) (m : Attempt) (r : Room) (v : View) : Type 0 where
@@ -327,7 +310,7 @@ pub record HasMade (z : Sizes) (u : View) (m : Attempt) (r : Room) (v : View) : 
   pub later : IsLater early v
   pub spent : HasSpent z u 22300 early
   pub case : IsCaseOf m.job m.case
-  pub locks : HasLocks z u m r early
+  pub locks : HasLocks u m r v
   pub goes : GoesBy z u m.position m.case r v
   pub has : HasHand z early r
   pub plain : r.change.copy ≡ None
@@ -409,18 +392,17 @@ pub record IsFull (z : Sizes) (u : View) (t : Position) (r : Room) (pool : Pool)
   pub none : HasNone z (demand_of z NewLeaf t.verdict) pool u v
   pub after : v.checked.step ≤ none.since
 
--- a cell that the change of the case locks, under a stamp that was checked in this attempt, has its counter at its end
-pub record IsExhausted (z : Sizes) (u : View) (j : Job) (t : Position) (c : Case) (l : Lowering) (r : Room) (x : CellOf) (v : View)
-    : Type 0 where
-  pub early : View
-  pub base : StillTries u early
-  pub later : IsLater early v
+-- the change of the case would lock this cell, whose counter is at its end: since the view u its version word was found so
+pub record IsExhausted (z : Sizes) (u : View) (j : Job) (t : Position) (c : Case) (r : Room) (x : CellOf) (v : View) : Type 0 where
   pub case : IsCaseOf j c
   pub deed : r.change.effects.deed ≡ made_by j r.row r.gone
   pub goes : GoesBy z u t c r v
-  pub failed : HasFailed early r.change (fault.Exhausted x) v
-  pub locked : IsLockedBy c t l failed.target.stamp
-  pub checked : IsChecked z u c t r failed.target.stamp early
+  pub index : ℕ
+  pub target : Target
+  pub is : target_at r.change index ≡ Some target
+  pub cell_is : x ≡ target.stamp.cell
+  pub at_end : 4 * last_counter ≤ target.stamp.version
+  pub locks : LocksChecked u c t v target.stamp
 
 -- the last check was of the place of the key, where by what the pass then knew a key begins this one, or this one begins it
 pub record IsOverlap (z : Sizes) (u : View) (t : Position) (r : Room) (v : View) : Type 0 where
@@ -429,18 +411,18 @@ pub record IsOverlap (z : Sizes) (u : View) (t : Position) (r : Room) (v : View)
   pub overlaps : t.verdict ≡ verdict.Overlaps
 
 -- of a write that does this at this place, in this case
-abbrev pub EndsBy : Sizes → View → Job → Position → Case → Lowering → Room → Ending → View → Type 0
-EndsBy z u j t c l r New v = (j ≡ Insert) × HasWritten z u j t c r v
-EndsBy z u j t c l r (Present stands) v = (j ≡ Insert) × HasSettled z u r (present r.row stands) v
-EndsBy z u j t c l r (Gone value) v = (j ≡ Remove) × HasWritten z u j t c r v × (r.gone.value ≡ value)
-EndsBy z u j t c l r Absent v = (j ≡ Remove) × HasSettled z u r (absent r.row) v
-EndsBy z u j t c l r (Full pool) v = (j ≡ Insert) × EndsSo z u r v × IsFull z u t r pool v
-EndsBy z u j t c l r (Exhausted x) v = EndsSo z u r v × IsExhausted z u j t c l r x v
-EndsBy z u j t c l r Overlaps v = (j ≡ Insert) × EndsSo z u r v × IsOverlap z u t r v
-EndsBy z u j t c l r Restart v = EndsSo z u r v × (u.failures < v.failures)
+abbrev pub EndsBy : Sizes → View → Job → Position → Case → Room → Ending → View → Type 0
+EndsBy z u j t c r New v = (j ≡ Insert) × HasWritten z u j t c r v
+EndsBy z u j t c r (Present stands) v = (j ≡ Insert) × HasSettled z u r (present r.row stands) v
+EndsBy z u j t c r (Gone value) v = (j ≡ Remove) × HasWritten z u j t c r v × (r.gone.value ≡ value)
+EndsBy z u j t c r Absent v = (j ≡ Remove) × HasSettled z u r (absent r.row) v
+EndsBy z u j t c r (Full pool) v = (j ≡ Insert) × EndsSo z u r v × IsFull z u t r pool v
+EndsBy z u j t c r (Exhausted x) v = EndsSo z u r v × IsExhausted z u j t c r x v
+EndsBy z u j t c r Overlaps v = (j ≡ Insert) × EndsSo z u r v × IsOverlap z u t r v
+EndsBy z u j t c r Restart v = EndsSo z u r v × (u.failures < v.failures)
 
 abbrev pub EndFits : Sizes → View → Attempt → Room → Ending → View → Type 0
-EndFits z u m r e v = EndsBy z u m.job m.position m.case m.lowering r e v
+EndFits z u m r e v = EndsBy z u m.job m.position m.case r e v
 
 -- ---- why it is tried anew
 

@@ -1,11 +1,12 @@
 -- What a write changes in each case: what it wants in hand, which cells it reads and locks, and what it comes of.
 use Rattle.std.specs.Prelude.{◌≡◌, ◌⊎◌, ℕ, List, [], Option, Some, None, Bool, true, false, ⊤}
-use Rattle.art_attempt.specs.Trying.{IsCheckOf, StoodAtCheck}
+use Rattle.art_attempt.specs.Trying.{IsCheckOf, StoodAtCheck, WasChecked}
 use Rattle.art_attempt.specs.declared.attempts.Job.{Job}
 use Rattle.art_attempt.specs.declared.attempts.Job.TheVariants.{Insert, Remove}
 use Rattle.art_attempt.specs.declared.cases.Case.{Case}
 use Rattle.art_attempt.specs.declared.cases.Case.TheVariants.{NewLeaf, DropLeaf, Shrink, MergeLeaf, MergeNode, Torn}
 use Rattle.art_attempt.specs.declared.rooms.Room.{Room}
+use Rattle.art_cell.specs.declared.Cell.TheVariants as cell
 use Rattle.art_cell.specs.declared.Link.{Link}
 use Rattle.art_cell.specs.declared.Link.TheVariants.{Leaf as leaf, Node as node}
 use Rattle.art_cell.specs.declared.layouts.Layout.{Layout}
@@ -15,11 +16,8 @@ use Rattle.art_find.specs.declared.read_sets.ReadSet.{ReadSet}
 use Rattle.art_find.specs.declared.verdicts.Verdict.{Verdict}
 use Rattle.art_frame.specs.Stocks.{node_in}
 use Rattle.art_frame.specs.declared.stocks.Stock.{Stock}
-use Rattle.art_gather.specs.Lowering as lowering
 use Rattle.art_gather.specs.Reserve.{HasNone}
 use Rattle.art_gather.specs.Vouching.{KnowsHere}
-use Rattle.art_gather.specs.declared.lowering.Lowered.TheVariants.{Unchanged}
-use Rattle.art_gather.specs.declared.lowering.Lowering.{Lowering}
 use Rattle.art_gather.specs.declared.reserve.Demand.{Demand}
 use Rattle.art_machine.specs.declared.actions.Effects.{Effects}
 use Rattle.art_model.specs.declared.commands.Answer.TheVariants as reply
@@ -83,13 +81,18 @@ both_of Torn found = false
 -- ---- what is locked and unlinked
 
 -- the stamp is that of a cell that is locked
-abbrev pub IsLockedBy : Case → Position → Lowering → Stamp → Type 0
-IsLockedBy NewLeaf t l x = IsLockedAt t x
-IsLockedBy DropLeaf t l x = IsNodeAt t x
-IsLockedBy (Shrink layout) t l x = IsEitherAt t x
-IsLockedBy (MergeLeaf other) t l x = IsEitherAt t x
-IsLockedBy (MergeNode byte n) t l x = IsEitherAt t x ⊎ (lowering.ended_at l ≡ Some (Unchanged x))
-IsLockedBy Torn t l x = ⊥
+abbrev pub IsLockedBy : Case → Position → Stamp → Type 0
+IsLockedBy NewLeaf t x = IsLockedAt t x
+IsLockedBy DropLeaf t x = IsNodeAt t x
+IsLockedBy (Shrink layout) t x = IsEitherAt t x
+IsLockedBy (MergeLeaf other) t x = IsEitherAt t x
+IsLockedBy (MergeNode byte n) t x = IsEitherAt t x ⊎ (x.cell ≡ cell.Node n)
+IsLockedBy Torn t x = ⊥
+
+-- and since the view u its version word was found as it is stamped
+pub record LocksChecked (u : View) (c : Case) (t : Position) (v : View) (x : Stamp) : Type 0 where
+  pub by : IsLockedBy c t x
+  pub checked : WasChecked u x v
 
 -- so many cells are locked where a leaf goes
 abbrev pub locks_of : Case → ℕ
@@ -168,7 +171,12 @@ pub record LeafGoes (z : Sizes) (u : View) (c : Case) (t : Position) (r : Room) 
   pub told : IsTold z c t r.read_set r.gone u v
   pub locks : targets r.change ≡ locks_of c
 
--- a leaf that goes does so in the case that was found; of one that comes nothing is said here but in its effects
+-- a leaf may come where its key stood at the last check
+pub record LeafComes (z : Sizes) (u : View) (t : Position) (r : Room) (v : View) : Type 0 where
+  pub stood : StoodAtCheck z u r.row.key.items t r.read_set v
+  pub comes : Comes t.verdict
+
+-- a leaf comes where its key stood, and one that goes does so in the case that was found
 abbrev pub IsWay : Sizes → View → Case → Position → Room → View → Type 0
-IsWay z u NewLeaf t r v = ⊤
+IsWay z u NewLeaf t r v = LeafComes z u t r v
 IsWay z u c t r v = LeafGoes z u c t r v

@@ -1,16 +1,14 @@
 -- What every attempt knows of the view: nothing is told, nothing is held, and few steps were made.
 use Rattle.std.specs.Prelude.{◌≡◌, ◌≢◌, ℕ, ◌<◌, ◌≤◌, ◌^◌, List, [], length, get_or}
 use Rattle.art_epoch.specs.Taking.{MadeFew}
-use Rattle.art_gather.specs.Vouching.{CheckedSince}
+use Rattle.art_gather.specs.Vouching.{FoundAt}
 use Rattle.art_find.specs.Findings.{IsStanding}
 use Rattle.art_find.specs.declared.read_sets.ReadSet.{ReadSet}
 use Rattle.art_find.specs.declared.findings.Position.{Position}
 use Rattle.art_step.specs.Shows.{rest_of}
-use Rattle.art_step.specs.Views.{Member}
 use Rattle.art_step.specs.declared.views.Sizes.{Sizes}
 use Rattle.art_step.specs.declared.views.Stamp.{Stamp}
 use Rattle.art_step.specs.declared.views.View.{View}
-use Rattle.art_step.specs.declared.views.Word.TheVariants.{Version}
 
 -- the bytes of a key
 pub record IsKey (k : List ℕ) : Type 0 where
@@ -29,11 +27,12 @@ pub record StillTries (u v : View) : Type 0 where
   pub pinned : v.pin ≢ 0
   pub later : IsLater u v
 
--- since the view u, and not after v, a check of the stamp succeeded, when the key stood there and the read set was as it is now
-pub record HasChecked (z : Sizes) (u : View) (k : List ℕ) (t : Position) (read_set : ReadSet) (x : Stamp) (v : View) : Type 0 where
-  pub early : View
-  pub base : StillTries u early
-  pub checked : CheckedSince z k t read_set early x v
+-- since the view u, and not after v, the version word of the stamp's cell was found as it is stamped
+pub record WasChecked (u : View) (x : Stamp) (v : View) : Type 0 where
+  pub step : ℕ
+  pub after : u.steps < step
+  pub done : step ≤ v.steps
+  pub found : FoundAt x step v
 
 -- ---- the last check that succeeded
 
@@ -43,7 +42,7 @@ at_check v = record v { stamps = v.checked.stamps; notes = v.checked.notes }
 
 -- that check was of the stamp: its version word was found at that step
 abbrev pub IsCheckOf : Stamp → View → Type 0
-IsCheckOf x v = Member (record { word = Version x.cell x.version; step = v.checked.step }) v.found
+IsCheckOf x v = FoundAt x v.checked.step v
 
 -- that check came after the view u, and by what the pass knew then the key stood there
 pub record StoodAtCheck (z : Sizes) (u : View) (k : List ℕ) (t : Position) (read_set : ReadSet) (v : View) : Type 0 where

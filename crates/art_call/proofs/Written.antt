@@ -156,8 +156,7 @@ module _ (z : Sizes) (u : View) (c : Caller) (m : Write) (v : View) (o : Outcome
             restarts_are = g.restarts_are;
             outcome_is = g.outcome_is;
             done = g.done;
-            refused = g.refused;
-            changed = g.changed;
+            cause = g.cause;
           };
         }
 

@@ -38,7 +38,7 @@ module _ (z : Sizes) (u : View) (ps : List Place) (m : Write) (r : Room) (qs : L
         }
 
     -- an outcome that says so came at the last turn
-    at_last : (t : Attempt) (o : Outcome) → OutcomeBy z k.began t.job t.position t.case t.lowering (record r { stock = k.stock }) o m.left k.ended → o ≡ Busy → UsedTurns z u m.turns v
+    at_last : (t : Attempt) (o : Outcome) → OutcomeBy z k.began t.job t.position t.case (record r { stock = k.stock }) o m.left k.ended → o ≡ Busy → UsedTurns z u m.turns v
     at_last t Busy h busy = used_turns h.0 h.1
     at_last t New h busy = cc
     at_last t (Present stands) h busy = cc

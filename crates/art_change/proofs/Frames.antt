@@ -117,7 +117,7 @@ may_close z u opened began ps qs frame base j t r v o left h few =
 
 module _ (z : Sizes) (u : View) (t : Attempt) (r : Room) (left : ℕ) (v : View) where
   abbrev Ends : Outcome → Type 0
-  Ends o = OutcomeBy z u t.job t.position t.case t.lowering r o left v
+  Ends o = OutcomeBy z u t.job t.position t.case r o left v
 
   or_busy_ends : (o : Outcome) → EndsSo z u r v → Ends o → Ends (or_busy left o)
   or_busy_ends o so ends = ⊎_elim

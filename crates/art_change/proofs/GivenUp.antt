@@ -17,7 +17,6 @@ use Rattle.art_attempt.specs.declared.attempts.Stage.{Stage as AttemptStage}
 use Rattle.art_attempt.specs.declared.attempts.Stage.TheVariants as attempt
 use Rattle.art_attempt.specs.declared.cases.Case.{Case}
 use Rattle.art_find.specs.declared.findings.Position.{Position}
-use Rattle.art_gather.specs.declared.lowering.Lowering.{Lowering}
 use Rattle.art_attempt.specs.declared.attempts.Job.TheVariants.{Insert, Remove}
 use Rattle.art_attempt.specs.declared.attempts.Attempt.{Attempt}
 use Rattle.art_change.specs.declared.writes.Outcome.{Outcome}
@@ -121,26 +120,26 @@ module _ (z : Sizes) (k : List ℕ) (value : ℕ) (u v : View) (ps qs : List Pla
   close_tells closing.Ended fits = (ap (λ (t : View). t.seen) fits.0.is, ap (λ (t : View). t.own) fits.0.is)
 
 -- what is no refusal was told
-told_of : (z : Sizes) (u : View) (j : Job) (t : Position) (c : Case) (l : Lowering) (r : Room) (o : Outcome) (left : ℕ) (v : View) (k : ArrayVec ℕ) (value : ℕ) → OutcomeBy z u j t c l r o left v
+told_of : (z : Sizes) (u : View) (j : Job) (t : Position) (c : Case) (r : Room) (o : Outcome) (left : ℕ) (v : View) (k : ArrayVec ℕ) (value : ℕ) → OutcomeBy z u j t c r o left v
     → is_refusal o ≡ false → (what : Deed) × (told_by o j k value ≡ Some what)
-told_of z u Insert t c l r New left v k value fits untold = (_, refl)
-told_of z u Insert t c l r (Present stands) left v k value fits untold = (_, refl)
-told_of z u Remove t c l r (Gone had) left v k value fits untold = (_, refl)
-told_of z u Remove t c l r Absent left v k value fits untold = (_, refl)
-told_of z u Insert t c l r (Gone had) left v k value fits untold = let no = fits.0 in cc
-told_of z u Insert t c l r Absent left v k value fits untold = let no = fits.0 in cc
-told_of z u Remove t c l r New left v k value fits untold = let no = fits.0 in cc
-told_of z u Remove t c l r (Present stands) left v k value fits untold = let no = fits.0 in cc
-told_of z u j t c l r (Full pool) left v k value fits untold = cc
-told_of z u j t c l r (Exhausted x) left v k value fits untold = cc
-told_of z u j t c l r Overlaps left v k value fits untold = cc
-told_of z u j t c l r Busy left v k value fits untold = cc
-told_of z u j t c l r (Crowded b) left v k value fits untold = cc
+told_of z u Insert t c r New left v k value fits untold = (_, refl)
+told_of z u Insert t c r (Present stands) left v k value fits untold = (_, refl)
+told_of z u Remove t c r (Gone had) left v k value fits untold = (_, refl)
+told_of z u Remove t c r Absent left v k value fits untold = (_, refl)
+told_of z u Insert t c r (Gone had) left v k value fits untold = let no = fits.0 in cc
+told_of z u Insert t c r Absent left v k value fits untold = let no = fits.0 in cc
+told_of z u Remove t c r New left v k value fits untold = let no = fits.0 in cc
+told_of z u Remove t c r (Present stands) left v k value fits untold = let no = fits.0 in cc
+told_of z u j t c r (Full pool) left v k value fits untold = cc
+told_of z u j t c r (Exhausted x) left v k value fits untold = cc
+told_of z u j t c r Overlaps left v k value fits untold = cc
+told_of z u j t c r Busy left v k value fits untold = cc
+told_of z u j t c r (Crowded b) left v k value fits untold = cc
 
 is_told : (z : Sizes) (u : View) (j : Job) (t : Attempt) (r : Room) (o : Outcome) (left : ℕ) (v : View) (k : ArrayVec ℕ) (value : ℕ) → HasOutcome z u j t r o left v
     → is_refusal o ≡ false → (what : Deed) × (told_by o j k value ≡ Some what)
 is_told z u j t r o left v k value h untold =
-    told_of z u j t.position t.case t.lowering r o left v k value (subst (λ (i : Job). OutcomeBy z u i t.position t.case t.lowering r o left v) h.job h.fits) untold
+    told_of z u j t.position t.case r o left v k value (subst (λ (i : Job). OutcomeBy z u i t.position t.case r o left v) h.job h.fits) untold
 
 module _ (z : Sizes) (u : View) (ps : List Place) (m : Write) (r : Room) (qs : List Place) (v : View) where
   closing_told : IsClosing z u ps m r qs v → is_refusal m.outcome ≡ false → HoldsOrTold u v

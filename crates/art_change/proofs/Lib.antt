@@ -4,7 +4,7 @@ pub use Rattle.art_attempt.proofs.ArtPlan
 pub use Rattle.art_find.proofs as ArtFind
 pub use Rattle.art_attempt.proofs.ArtGather
 pub mod Answered
-pub mod Changed
+mod Causes
 pub mod Counted
 pub mod Endings
 pub mod FrameSteps
@@ -13,6 +13,5 @@ pub mod GivenUp
 pub mod Newcomers
 pub mod Overlaps
 pub mod Ready
-mod Refused
 mod SameWrite
 mod Steps

@@ -2,7 +2,7 @@
 use Rattle.std.specs.Prelude.{◌≡◌, ◌≢◌, ◌⊎◌, ℕ, ◌+◌, ◌-◌, ◌*◌, ◌<◌, ◌≤◌, ◌==◌, Bool, true, false, List, [], length, Option, Some, None, if◌then◌else◌, ⊤}
 use Rattle.arrayvec.specs.ArrayVec.{ArrayVec}
 use Rattle.art_attempt.specs.Attempts as attempts
-use Rattle.art_attempt.specs.Attempts.{EndsBy, EndsSo, GoesBy, HasHand, IsFull, IsOverlap, IsRoom, absent, present, tries_left}
+use Rattle.art_attempt.specs.Attempts.{EndsBy, EndsSo, GoesBy, HasHand, IsExhausted, IsFull, IsOverlap, IsRoom, absent, present, tries_left}
 use Rattle.art_attempt.specs.Trying.{IsLimited, StillTries}
 use Rattle.art_attempt.specs.declared.cases.Case.{Case}
 use Rattle.art_attempt.specs.declared.rooms.Room.{Room}
@@ -29,7 +29,6 @@ use Rattle.art_frame.specs.declared.stocks.Stock.{Stock}
 use Rattle.art_plan.specs.Insert.Puts.{inserted}
 use Rattle.art_plan.specs.declared.insert.leaves.NewLeaf.{NewLeaf}
 use Rattle.art_find.specs.declared.findings.Position.{Position}
-use Rattle.art_gather.specs.declared.lowering.Lowering.{Lowering}
 use Rattle.art_find.specs.Verdicts.{HasOverlap}
 use Rattle.art_machine.specs.declared.actions.Action.{Action}
 use Rattle.art_machine.specs.declared.actions.Action.TheVariants.{Free}
@@ -139,21 +138,21 @@ told_by Absent job.Remove k value = Some (absent (row_of k value))
 told_by o j k value = None
 
 -- how it stands when the last attempt has ended, of a pass that had the view u when that began; so many turns are left
-abbrev pub OutcomeBy : Sizes → View → Job → Position → Case → Lowering → Room → Outcome → ℕ → View → Type 0
-OutcomeBy z u j t c l r New left v = EndsBy z u j t c l r ending.New v
-OutcomeBy z u j t c l r (Present stands) left v = EndsBy z u j t c l r (ending.Present stands) v
-OutcomeBy z u j t c l r (Gone value) left v = EndsBy z u j t c l r (ending.Gone value) v
-OutcomeBy z u j t c l r Absent left v = EndsBy z u j t c l r ending.Absent v
-OutcomeBy z u j t c l r (Full pool) left v = EndsBy z u j t c l r (ending.Full pool) v
-OutcomeBy z u j t c l r (Exhausted x) left v = EndsBy z u j t c l r (ending.Exhausted x) v
-OutcomeBy z u j t c l r Overlaps left v = EndsBy z u j t c l r ending.Overlaps v
-OutcomeBy z u j t c l r Busy left v = EndsSo z u r v × (left ≡ 0)
-OutcomeBy z u j t c l r (Crowded b) left v = ⊥
+abbrev pub OutcomeBy : Sizes → View → Job → Position → Case → Room → Outcome → ℕ → View → Type 0
+OutcomeBy z u j t c r New left v = EndsBy z u j t c r ending.New v
+OutcomeBy z u j t c r (Present stands) left v = EndsBy z u j t c r (ending.Present stands) v
+OutcomeBy z u j t c r (Gone value) left v = EndsBy z u j t c r (ending.Gone value) v
+OutcomeBy z u j t c r Absent left v = EndsBy z u j t c r ending.Absent v
+OutcomeBy z u j t c r (Full pool) left v = EndsBy z u j t c r (ending.Full pool) v
+OutcomeBy z u j t c r (Exhausted x) left v = EndsBy z u j t c r (ending.Exhausted x) v
+OutcomeBy z u j t c r Overlaps left v = EndsBy z u j t c r ending.Overlaps v
+OutcomeBy z u j t c r Busy left v = EndsSo z u r v × (left ≡ 0)
+OutcomeBy z u j t c r (Crowded b) left v = ⊥
 
 -- of an attempt of this job
 pub record HasOutcome (z : Sizes) (u : View) (j : Job) (t : Attempt) (r : Room) (o : Outcome) (left : ℕ) (v : View) : Type 0 where
   pub job : t.job ≡ j
-  pub fits : OutcomeBy z u t.job t.position t.case t.lowering r o left v
+  pub fits : OutcomeBy z u t.job t.position t.case r o left v
 
 -- ---- what it knows, of a pass that had the view u when it began, where ps waited
 
@@ -290,19 +289,18 @@ pub record IsFresh (z : Sizes) (u : View) (own : ℕ) : Type 0 where
   pub hand : u.hand ≡ []
   pub limbo : u.limbo ≡ []
 
--- where an insert was refused as full or as an overlap: its ground, of a check after the view u, by what the pass has at the end
-abbrev pub IsRefusedBy : Sizes → View → Attempt → Room → Outcome → View → Type 0
-IsRefusedBy z u m r (Full pool) v = IsFull z u m.position r pool v
-IsRefusedBy z u m r Overlaps v = IsOverlap z u m.position r v
-IsRefusedBy z u m r o v = ⊤
-
--- where the change was made, or given up for a counter: of a removal it is the one that what was read and found tells, by what the pass
--- has at the end; of an insert it has the effects of a place that is not tied to the view
-abbrev pub IsChangedBy : Sizes → View → Attempt → Room → Outcome → View → Type 0
-IsChangedBy z u m r New v = GoesBy z u m.position m.case r v
-IsChangedBy z u m r (Gone value) v = GoesBy z u m.position m.case r v
-IsChangedBy z u m r (Exhausted c) v = GoesBy z u m.position m.case r v
-IsChangedBy z u m r o v = ⊤
+-- why it ended so, of checks after the view u, by what the pass has at the end: the change that was made is the one that what was read and
+-- found tells; a refusal has its cause. Of an answer that a check told, its event says all; turns are counted elsewhere
+abbrev pub IsCause : Sizes → View → Attempt → Room → Outcome → View → Type 0
+IsCause z u m r New v = GoesBy z u m.position m.case r v
+IsCause z u m r (Gone value) v = GoesBy z u m.position m.case r v
+IsCause z u m r (Full pool) v = IsFull z u m.position r pool v
+IsCause z u m r (Exhausted x) v = IsExhausted z u m.job m.position m.case r x v
+IsCause z u m r Overlaps v = IsOverlap z u m.position r v
+IsCause z u m r (Present stands) v = ⊤
+IsCause z u m r Absent v = ⊤
+IsCause z u m r Busy v = ⊤
+IsCause z u m r (Crowded b) v = ⊤
 
 -- it ended so, with what its outcome came of: as a machine of this job has it that was run to its end, with these turns and restarts
 pub record HasGround (z : Sizes) (u : View) (j : Job) (ps : List Place) (turns restarts : ℕ) (o : Outcome) (r : Room) (qs : List Place)
@@ -313,8 +311,7 @@ pub record HasGround (z : Sizes) (u : View) (j : Job) (ps : List Place) (turns r
   pub restarts_are : machine.restarts ≡ restarts
   pub outcome_is : machine.outcome ≡ o
   pub done : IsDone z u ps o machine r qs v
-  pub refused : IsRefusedBy z u machine.attempt r o v
-  pub changed : IsChangedBy z u machine.attempt r o v
+  pub cause : IsCause z u machine.attempt r o v
 
 -- so many steps were counted as there were turns, and in a table within its limits these are few beside the failures
 pub record UsedTurns (z : Sizes) (u : View) (turns : ℕ) (v : View) : Type 0 where

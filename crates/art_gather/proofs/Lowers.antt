@@ -19,7 +19,7 @@ use Rattle.art_machine.specs.declared.actions.Answer.{Answer}
 use Rattle.art_machine.specs.declared.actions.Answer.TheVariants.{Begun, Word, Checked, Upgraded, Done}
 use Rattle.art_machine.specs.declared.actions.Action.{Action}
 use Rattle.art_machine.specs.declared.actions.Action.TheVariants.{Begin, Check}
-use Rattle.art_gather.proofs.Vouches.{above_on, above_on_still, checked_now, passed_just, passed_later, passed_left, vouched_still}
+use Rattle.art_gather.proofs.Vouches.{above_on, above_on_still, checked_now, passed_found, passed_just, passed_later, passed_left, passed_stays, vouched_still}
 use Rattle.art_gather.specs.Vouching.{CheckedSince, HasLeft, IsReadingAbove, IsVouched, KnowsAbove, VouchesAbove, above_checks, above_reads}
 use Rattle.art_gather.proofs.LowerNames.{has_over, is_other, is_third, led_to, may_begin, parent, path_to}
 use Rattle.art_gather.specs.Lowering.{Fits, IsBelow, IsLed, IsLower, IsLowering, IsParent, IsThird, KnowsLower, StageFits, WouldLead, after_check, asks}
@@ -312,7 +312,7 @@ module _ (z : Sizes) (k : List ℕ) (t : Position) (n : Node) (read_set : ReadSe
               record {
                 here = vouched t.stamp passed;
                 whole = lowering.whole;
-                above = above_on_still z k true t read_set u v w (passed_later z v w t.stamp passed) vouches;
+                above = above_on_still z k true t read_set u v w (passed_later z v w t.stamp passed) (passed_stays z v w t.stamp passed) vouches;
                 all = above;
               },
             );
@@ -327,12 +327,12 @@ module _ (z : Sizes) (k : List ℕ) (t : Position) (n : Node) (read_set : ReadSe
           (λ passed. record {
             stage = (
               still_lowering x passed,
-              vouched_still z k true t read_set u v w (passed_later z v w x passed) both,
+              vouched_still z k true t read_set u v w (passed_later z v w x passed) (passed_stays z v w x passed) both,
               record {
                 below = still_below x passed x below;
                 whole = whole;
                 third = third;
-                was = record { before = v; lowering = lowering; below = below; after = w; passed = passed; done = omega arith };
+                was = record { before = v; lowering = lowering; below = below; after = w; passed = passed; done = omega arith; found = passed_found z v w x passed };
               },
               passed_just z u v w x lowering.vouching.later passed,
             );

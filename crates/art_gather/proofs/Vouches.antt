@@ -1,5 +1,5 @@
 -- Words of the two cells are read one after another, and then both are checked.
-use Rattle.std.proofs.Common.{◌≡◌, ℕ, ◌+◌, ◌<◌, ◌≤◌, arith, Bool, true, false, List, Option, Some, None, refl, sym, ap, ◌∙◌, subst}
+use Rattle.std.proofs.Common.{◌≡◌, ℕ, ◌+◌, ◌<◌, ◌≤◌, arith, Bool, true, false, List, Option, Some, None, inl, inr, refl, sym, ap, ◌∙◌, subst}
 use Rattle.std.specs.Prelude.{Ok, Err}
 use Rattle.std.proofs.lemmas.Bool.{lt-ltb}
 use Rattle.std.proofs.lemmas.Option.{same_Some}
@@ -16,7 +16,8 @@ use Rattle.art_machine.specs.declared.actions.Answer.{Answer}
 use Rattle.art_machine.specs.declared.actions.Answer.TheVariants.{Begun, Word, Checked, Upgraded, Done}
 use Rattle.art_machine.specs.declared.actions.Action.{Action}
 use Rattle.art_machine.specs.declared.actions.Action.TheVariants.{Read, Check}
-use Rattle.art_gather.specs.Vouching.{CheckedSince, Fits, HasJustChecked, HasLeft, IsReadingHere, IsVouched, IsVouching, KnowsAbove, KnowsHere, VouchesAbove, after_check, written_above}
+use Rattle.art_gather.specs.Reserve.{StayFound}
+use Rattle.art_gather.specs.Vouching.{CheckedSince, Fits, FoundAt, HasJustChecked, HasLeft, IsReadingHere, IsVouched, IsVouching, KnowsAbove, KnowsHere, VouchesAbove, after_check, written_above}
 use Rattle.art_gather.specs.declared.vouching.Vouched.TheVariants.{Unchanged}
 use Rattle.art_gather.specs.declared.vouching.Vouching.{Vouching}
 use Rattle.art_gather.specs.declared.vouching.Vouching.TheVariants.{CheckHere, Ended}
@@ -36,8 +37,9 @@ use Rattle.art_step.proofs.Shows.{failed_rest, passed_rest}
 use Rattle.art_step.specs.Shows.{HasStamp}
 use Rattle.art_step.specs.Steps.Check as check
 use Rattle.art_step.specs.Steps.Read as read
-use Rattle.art_step.specs.Views.{IsNotHeld, size_of}
+use Rattle.art_step.specs.Views.{IsNotHeld, Member, size_of}
 use Rattle.art_step.specs.declared.deeds.Deed.{Deed}
+use Rattle.art_step.specs.declared.views.Found.{Found}
 use Rattle.art_step.specs.declared.views.Sizes.{Sizes}
 use Rattle.art_step.specs.declared.views.Stamp.{Stamp}
 use Rattle.art_step.specs.declared.views.View.{View}
@@ -115,29 +117,37 @@ module _ (z : Sizes) (k : List ℕ) (t : Position) (read_set : ReadSet) (u : Vie
       record { view = checked.before; standing = checked.vouching.standing; tree = passed.vouched.0; shape = passed.vouched.1; holds = passed.vouched.2 }
 
   -- and that it did stays so
-  pub checked_on : (w : View) → v.steps ≤ w.steps → CheckedSince z k t read_set u x w
-  checked_on w more = let done = checked.done in record {
+  pub checked_on : (w : View) → v.steps ≤ w.steps → StayFound v w → CheckedSince z k t read_set u x w
+  checked_on w more stay = let done = checked.done in record {
     before = checked.before;
     vouching = checked.vouching;
     after = checked.after;
     passed = checked.passed;
     done = omega (arith, done, more);
+    found = stay _ checked.found;
   }
 
-pub above_on_still : (z : Sizes) (k : List ℕ) (both : Bool) (t : Position) (read_set : ReadSet) (u v w : View) → v.steps ≤ w.steps → VouchesAbove z k both t read_set u v → VouchesAbove z k both t read_set u w
-above_on_still z k both t read_set u v w more vouches a is = checked_on z k t read_set u a.stamp v (vouches a is) w more
+pub above_on_still : (z : Sizes) (k : List ℕ) (both : Bool) (t : Position) (read_set : ReadSet) (u v w : View) → v.steps ≤ w.steps → StayFound v w → VouchesAbove z k both t read_set u v → VouchesAbove z k both t read_set u w
+above_on_still z k both t read_set u v w more stay vouches a is = checked_on z k t read_set u a.stamp v (vouches a is) w more stay
 
-pub vouched_still : (z : Sizes) (k : List ℕ) (both : Bool) (t : Position) (read_set : ReadSet) (u v w : View) → v.steps ≤ w.steps → IsVouched z k both t read_set u v → IsVouched z k both t read_set u w
-vouched_still z k both t read_set u v w more both_are = record {
-  here = checked_on z k t read_set u t.stamp v both_are.here w more;
+pub vouched_still : (z : Sizes) (k : List ℕ) (both : Bool) (t : Position) (read_set : ReadSet) (u v w : View) → v.steps ≤ w.steps → StayFound v w → IsVouched z k both t read_set u v → IsVouched z k both t read_set u w
+vouched_still z k both t read_set u v w more stay both_are = record {
+  here = checked_on z k t read_set u t.stamp v both_are.here w more stay;
   whole = both_are.whole;
-  above = above_on_still z k both t read_set u v w more both_are.above;
+  above = above_on_still z k both t read_set u v w more stay both_are.above;
   all = both_are.all;
 }
 
 -- it is a step
 pub passed_later : (z : Sizes) (v w : View) (x : Stamp) → check.Unchanged z v w x None → v.steps ≤ w.steps
 passed_later z v w x passed = let step = ap (λ (y : View). y.steps) passed.is in omega (arith, step)
+
+-- by which its word was found, and none is forgotten
+pub passed_stays : (z : Sizes) (v w : View) (x : Stamp) → check.Unchanged z v w x None → StayFound v w
+passed_stays z v w x passed y there = subst (λ (found : List Found). Member y found) (sym (ap (λ (s : View). s.found) passed.is)) (inr there)
+
+pub passed_found : (z : Sizes) (v w : View) (x : Stamp) → check.Unchanged z v w x None → FoundAt x w.steps w
+passed_found z v w x passed = subst (λ (s : View). FoundAt x s.steps s) (sym passed.is) (inl refl)
 
 -- what the pass knows is what it knew at the check
 pub passed_just : (z : Sizes) (u v w : View) (x : Stamp) → u.steps ≤ v.steps → check.Unchanged z v w x None → HasJustChecked u w
@@ -219,7 +229,7 @@ module _ (z : Sizes) (k : List ℕ) (both : Bool) (t : Position) (read_set : Rea
     }
 
     pub checked_now : CheckedSince z k t read_set u x w
-    checked_now = record { before = v; vouching = p; after = w; passed = passed; done = omega arith }
+    checked_now = record { before = v; vouching = p; after = w; passed = passed; done = omega arith; found = passed_found z v w x passed }
 
   module _ (left : ℕ) (some : 0 < left) (has : HasLeft u v left 532) where
     check_told : (d : Deed) (x : Stamp) (answer : Answer) (next : Vouching) → (check.Unchanged z v w x None → Fits z k both t next read_set u w) → Answers z (telling d) (Check x) answer v w
@@ -263,7 +273,7 @@ module _ (z : Sizes) (k : List ℕ) (both : Bool) (t : Position) (read_set : Rea
             record {
               here = checked_now t.stamp passed;
               whole = here;
-              above = above_on_still z k both t read_set u v w (passed_later z v w t.stamp passed) vouches;
+              above = above_on_still z k both t read_set u v w (passed_later z v w t.stamp passed) (passed_stays z v w t.stamp passed) vouches;
               all = above;
             },
             passed_just z u v w t.stamp p.later passed,

@@ -15,7 +15,7 @@ use Rattle.art_find.specs.Descents.{IsReading}
 use Rattle.art_machine.specs.declared.actions.Answer.{Answer}
 use Rattle.art_machine.specs.declared.actions.Action.{Action}
 use Rattle.art_machine.specs.declared.actions.Action.TheVariants.{Begin, Check}
-use Rattle.art_gather.specs.Vouching.{HasJustChecked, IsReadingAbove, IsVouched, IsVouching, KnowsAbove, KnowsHere, VouchesAbove, above_checks, above_reads}
+use Rattle.art_gather.specs.Vouching.{FoundAt, HasJustChecked, IsReadingAbove, IsVouched, IsVouching, KnowsAbove, KnowsHere, VouchesAbove, above_checks, above_reads}
 use Rattle.art_machine.specs.Acting.{passed}
 use Rattle.art_gather.specs.declared.lowering.Lowered.{Lowered}
 use Rattle.art_gather.specs.declared.lowering.Lowered.TheVariants.{Unchanged, Changed}
@@ -143,6 +143,7 @@ pub record CheckedBelow (z : Sizes) (k : List ℕ) (t : Position) (read_set : Re
   pub after : View
   pub passed : check.Unchanged z before after x None
   pub done : after.steps ≤ v.steps
+  pub found : FoundAt x after.steps v
 
 -- the lower node is stamped, with its path and all its words, and is a third cell; a check of it succeeded after that
 pub record IsLowered (z : Sizes) (k : List ℕ) (t : Position) (read_set : ReadSet) (n : Node) (x : Stamp) (lower : List (Option ℕ)) (u v : View)

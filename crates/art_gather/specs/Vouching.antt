@@ -18,10 +18,11 @@ use Rattle.art_find.specs.declared.findings.Above.{Above as CellAbove}
 use Rattle.art_find.specs.declared.findings.Position.{Position}
 use Rattle.art_find.specs.declared.rereadings.Rereading.{Rereading}
 use Rattle.art_step.specs.Steps.Check as check
-use Rattle.art_step.specs.Views.{size_of}
+use Rattle.art_step.specs.Views.{Member, size_of}
 use Rattle.art_step.specs.declared.views.Sizes.{Sizes}
 use Rattle.art_step.specs.declared.views.Stamp.{Stamp}
 use Rattle.art_step.specs.declared.views.View.{View}
+use Rattle.art_step.specs.declared.views.Word.TheVariants.{Version}
 
 -- ---- what it asks
 
@@ -102,6 +103,10 @@ pub record IsVouching (z : Sizes) (k : List ℕ) (t : Position) (read_set : Read
   pub later : u.steps ≤ v.steps
   pub standing : IsStanding z k t read_set v
 
+-- the version word of the stamp's cell was found at that step, as it is stamped
+abbrev pub FoundAt : Stamp → ℕ → View → Type 0
+FoundAt x step v = Member (record { word = Version x.cell x.version; step = step }) v.found
+
 -- since the view u, and not after v, a check of the stamp succeeded, when the key stood there and the read set was as it is now
 pub record CheckedSince (z : Sizes) (k : List ℕ) (t : Position) (read_set : ReadSet) (u : View) (x : Stamp) (v : View) : Type 0 where
   pub before : View
@@ -109,6 +114,7 @@ pub record CheckedSince (z : Sizes) (k : List ℕ) (t : Position) (read_set : Re
   pub after : View
   pub passed : check.Unchanged z before after x None
   pub done : after.steps ≤ v.steps
+  pub found : FoundAt x after.steps v
 
 -- a check of the cell above succeeded
 abbrev pub VouchesAbove : Sizes → List ℕ → Bool → Position → ReadSet → View → View → Type 0

@@ -14,7 +14,7 @@ returns-clause-fits c z u v room so may = record {
       later = later_first v;
       spent = so.spent;
       case = may.case;
-      locks = record { only = may.locks.only; each = may.locks.each };
+      locks = may.locks;
       goes = may.goes;
       has = so.has;
       plain = may.planned.plain;

@@ -1,5 +1,5 @@
 use Rattle.art_attempt.proofs.Commits.{leaf_may}
-use Rattle.art_attempt.proofs.Lower.{lower_each, lower_known, lower_locks, lower_merges, lower_other, lower_so, lower_stood}
+use Rattle.art_attempt.proofs.Lower.{lower_known, lower_locks, lower_merges, lower_other, lower_so, lower_stood}
 use Rattle.art_attempt.proofs.attempts.Attempt.plan_lowers.Goals as goal
 use Rattle.art_attempt.specs.declared.cases.Case.TheVariants.{MergeNode}
 use Rattle.art_attempt.specs.declared.rooms.Room.{Room}
@@ -42,5 +42,4 @@ returns-clause-fits c z u v room h is =
     } in
     c.begin.ensures.fits z u v (record { sizes = room.sizes; key = room.key }) (record { still = so.still; spent = so.spent; has = so.has })
     (leaf_may z u m then v h.job (record { found = h.leaf.found; key = h.leaf.key }) (lower_stood z u m r v h byte n at x is) (MergeNode byte n) at tt (plan.effects made)
-    (plan.planned made z v known.0 known.2 known.3) (lower_other z u m r v h byte n at x is) (plan.targets made) (lower_locks z u m r v h byte n at x is then.change (plan.locks made))
-    (lower_each z u m r v h byte n at x is))
+    (plan.planned made z v known.0 known.2 known.3) (lower_other z u m r v h byte n at x is) (plan.targets made) (lower_locks z u m r v h byte n at x is then.change (plan.locks made)))

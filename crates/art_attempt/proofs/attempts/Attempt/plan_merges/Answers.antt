@@ -1,5 +1,5 @@
 use Rattle.std.proofs.Common.{refl, ap, sym, subst}
-use Rattle.art_attempt.proofs.Cells.{gone_standing, seen_both, seen_here, vouched_each, vouched_so, vouched_stood}
+use Rattle.art_attempt.proofs.Cells.{gone_standing, seen_both, seen_here, vouched_locks, vouched_so, vouched_stood}
 use Rattle.art_attempt.proofs.Commits.{leaf_may}
 use Rattle.art_attempt.proofs.Chosen.{goes_remove}
 use Rattle.art_attempt.proofs.attempts.Attempt.plan_merges.Goals as goal
@@ -45,4 +45,4 @@ returns-clause-fits c z u v room h is =
     let job = goes_remove m.job m.case (subst (IsCaseOf Remove) (sym case) tt) h.case in
     c.begin.ensures.fits z u v (record { sizes = room.sizes; key = room.key }) (record { still = so.still; spent = so.spent; has = so.has })
     (leaf_may z u m then v job (record { found = leaf.found; key = leaf.key }) (vouched_stood z u m r v h is) (MergeLeaf c.args.other) case tt plan.effects
-    (plan.planned z v (seen_both z u m r v h is leaf (ap (λ (d : CaseOf). both_of d m.position.verdict) case)) (gone_standing z u m r v h is leaf)) (known.1.1.0, known.1.1.1 r.read_set refl (seen_here z u m r v h is leaf)) plan.targets plan.locks (vouched_each z u m r v h is (MergeLeaf c.args.other) case tt))
+    (plan.planned z v (seen_both z u m r v h is leaf (ap (λ (d : CaseOf). both_of d m.position.verdict) case)) (gone_standing z u m r v h is leaf)) (known.1.1.0, known.1.1.1 r.read_set refl (seen_here z u m r v h is leaf)) plan.targets (vouched_locks z u m r v h is (MergeLeaf c.args.other) case tt then.change plan.locks))

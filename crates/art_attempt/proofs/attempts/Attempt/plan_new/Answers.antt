@@ -1,9 +1,9 @@
 use Rattle.std.proofs.Common.{◌∙◌, ap, sym, subst}
-use Rattle.art_attempt.proofs.Cells.{leaf_ready, node_ready, seen_new, vouched_each, vouched_so, vouched_standing}
+use Rattle.art_attempt.proofs.Cells.{leaf_ready, node_ready, seen_new, vouched_locks, vouched_so, vouched_standing, vouched_stood}
 use Rattle.art_attempt.proofs.Chosen.{comes_insert}
 use Rattle.art_attempt.proofs.attempts.Attempt.plan_new.Goals as goal
-use Rattle.art_attempt.specs.Attempts.{GoesBy, IsChecked, IsKnown}
-use Rattle.art_attempt.specs.Cases.{IsLockedBy, made_by}
+use Rattle.art_attempt.specs.Attempts.{GoesBy, IsKnown}
+use Rattle.art_attempt.specs.Cases.{LocksChecked, made_by}
 use Rattle.art_attempt.specs.Rooms.{number_for}
 use Rattle.art_attempt.specs.declared.attempts.Job.{Job}
 use Rattle.art_attempt.specs.declared.cases.Case.{Case as CaseOf}
@@ -12,7 +12,6 @@ use Rattle.art_attempt.specs.declared.rooms.Room.{Room}
 use Rattle.art_machine.specs.declared.actions.Effects.{Effects}
 use Rattle.art_plan.specs.ChooseInsert.Plans.{HasNeeded, LocksOnly}
 use Rattle.art_plan.specs.declared.choose_insert.needs.Needs.{Needs}
-use Rattle.art_step.specs.declared.views.Stamp.{Stamp}
 
 pub plan_insert-requires-clause-seen : goal.plan_insert-requires-clause-seen
 plan_insert-requires-clause-seen c =
@@ -41,9 +40,6 @@ returns-clause-fits c z u v room h is =
       planned = plan.planned z v (seen_new z u m r v h is case) (vouched_standing z u m r v h is) (leaf_ready z v r t so.has known.1 room.key c.in-Some.leaf at) needed;
       leaf = λ l comes. at ∙ (sym (ap (λ (e : Effects). e.leaf) plan.effects) ∙ comes);
       deed = ap (λ (e : Effects). e.deed) plan.effects ∙ sym (ap (λ (j : Job). made_by j then.row then.gone) (comes_insert m.job m.case case h.case));
-      goes = subst (λ (d : CaseOf). GoesBy z u t d then v) (sym case) (record { told = tt; effects = plan.effects });
-      locks = record {
-        only = subst (λ (d : CaseOf). LocksOnly (IsLockedBy d t m.lowering) then.change) (sym case) plan.locks;
-        each = subst (λ (d : CaseOf). (x : Stamp) → IsLockedBy d t m.lowering x → IsChecked z u d t then x v) (sym case) (vouched_each z u m r v h is NewLeaf case tt);
-      };
+      goes = subst (λ (d : CaseOf). GoesBy z u t d then v) (sym case) (record { told = record { stood = vouched_stood z u m r v h is; comes = known.0 }; effects = plan.effects });
+      locks = subst (λ (d : CaseOf). LocksOnly (LocksChecked u d t v) then.change) (sym case) (vouched_locks z u m r v h is NewLeaf case tt then.change plan.locks);
     })

@@ -1,5 +1,5 @@
 use Rattle.std.proofs.Common.{ap, sym, subst}
-use Rattle.art_attempt.proofs.Cells.{gone_standing, seen_both, smaller_ready, vouched_each, vouched_so, vouched_stood}
+use Rattle.art_attempt.proofs.Cells.{gone_standing, seen_both, smaller_ready, vouched_locks, vouched_so, vouched_stood}
 use Rattle.art_attempt.proofs.Commits.{leaf_may}
 use Rattle.art_attempt.proofs.Chosen.{goes_remove}
 use Rattle.art_attempt.proofs.attempts.Attempt.plan_shrinks.Goals as goal
@@ -38,4 +38,4 @@ returns-clause-fits c z u v room h is =
     let ready = smaller_ready z v m.position r c.args.layout c.number_for-made.result so.has known.1.0 known.1.1 c.number_for-made.ensures in
     c.begin.ensures.fits z u v (record { sizes = room.sizes; key = room.key }) (record { still = so.still; spent = so.spent; has = so.has })
     (leaf_may z u m then v job (record { found = leaf.found; key = leaf.key }) (vouched_stood z u m r v h is) (Shrink c.args.layout) case tt plan.effects
-    (plan.planned z v (seen_both z u m r v h is leaf (ap (λ (d : CaseOf). both_of d m.position.verdict) case)) (gone_standing z u m r v h is leaf) ready) (known.1.0) plan.targets plan.locks (vouched_each z u m r v h is (Shrink c.args.layout) case tt))
+    (plan.planned z v (seen_both z u m r v h is leaf (ap (λ (d : CaseOf). both_of d m.position.verdict) case)) (gone_standing z u m r v h is leaf) ready) (known.1.0) plan.targets (vouched_locks z u m r v h is (Shrink c.args.layout) case tt then.change plan.locks))

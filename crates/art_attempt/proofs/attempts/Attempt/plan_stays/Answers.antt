@@ -1,5 +1,5 @@
 use Rattle.std.proofs.Common.{sym, subst}
-use Rattle.art_attempt.proofs.Cells.{gone_standing, seen_here, vouched_each, vouched_so, vouched_stood}
+use Rattle.art_attempt.proofs.Cells.{gone_standing, seen_here, vouched_locks, vouched_so, vouched_stood}
 use Rattle.art_attempt.proofs.Commits.{leaf_may}
 use Rattle.art_attempt.proofs.Chosen.{goes_remove}
 use Rattle.art_attempt.proofs.attempts.Attempt.plan_stays.Goals as goal
@@ -37,4 +37,4 @@ returns-clause-fits c z u v room h is =
     let job = goes_remove m.job m.case (subst (IsCaseOf Remove) (sym case) tt) h.case in
     c.begin.ensures.fits z u v (record { sizes = room.sizes; key = room.key }) (record { still = so.still; spent = so.spent; has = so.has })
     (leaf_may z u m then v job (record { found = leaf.found; key = leaf.key }) (vouched_stood z u m r v h is) DropLeaf case tt plan.effects
-    (plan.planned z v (seen_here z u m r v h is leaf) (gone_standing z u m r v h is leaf)) (known.1) plan.targets plan.locks (vouched_each z u m r v h is DropLeaf case tt))
+    (plan.planned z v (seen_here z u m r v h is leaf) (gone_standing z u m r v h is leaf)) (known.1) plan.targets (vouched_locks z u m r v h is DropLeaf case tt then.change plan.locks))

@@ -1,9 +1,8 @@
 use Rattle.std.proofs.Common.{ap, refl, subst}
 use Rattle.art_change.proofs.Answered.{answered}
 use Rattle.art_change.proofs.Counted.{write_counted}
-use Rattle.art_change.proofs.Changed.{changed_so}
+use Rattle.art_change.proofs.Causes.{cause_so}
 use Rattle.art_change.proofs.Ready.{ready_again}
-use Rattle.art_change.proofs.Refused.{refused_so}
 use Rattle.art_change.proofs.writes.Write.ended.Goals as goal
 use Rattle.art_change.specs.Writes.{StageFits, outcome_at}
 use Rattle.art_change.specs.declared.writes.Stage.{Stage as StageOf}
@@ -29,8 +28,7 @@ returns-in-Ended-clause-grounds c z u v ps qs r fits =
       restarts_are = refl;
       outcome_is = refl;
       done = done;
-      refused = refused_so z u ps m r qs v m.outcome refl done;
-      changed = changed_so z u ps m r qs v m.outcome refl done;
+      cause = cause_so z u ps m r qs v m.outcome refl done;
     }
 
 pub returns-in-Ended-clause-ready : goal.returns-in-Ended-clause-ready
