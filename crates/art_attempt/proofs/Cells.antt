@@ -1,7 +1,6 @@
 -- The cells that are written are read and checked.
 use Rattle.std.proofs.Common.{◌≡◌, ℕ, ◌<◌, ◌≤◌, Bool, true, false, List, Option, Some, refl, sym, ap, ◌∙◌, subst, arith, ⊎_elim}
 use Rattle.std.proofs.lemmas.Bool.{cases_Bool}
-use Rattle.std.specs.Prelude.{⊤}
 use Rattle.std.proofs.lemmas.Option.{same_Some}
 use Rattle.std.specs.Option.{unwrap_or}
 use Rattle.arrayvec.specs.ArrayVec.{ArrayVec}
@@ -9,11 +8,12 @@ use Rattle.art_attempt.proofs.Chosen.{known_on, stood_now}
 use Rattle.art_attempt.proofs.Finds.{within_so}
 use Rattle.art_attempt.proofs.Looks.{no_fewer}
 use Rattle.art_attempt.proofs.Tries.{checked_since, still_reads, stock_reads}
-use Rattle.art_attempt.specs.Attempts.{EndsSo, EndsWithin, HasHand, HasVouched}
-use Rattle.art_attempt.specs.Cases.{HasLeaf, IsLockedBy, LocksChecked, both_of}
+use Rattle.art_attempt.specs.Attempts.{EndsSo, EndsWithin, HasHand, IsValidating}
+use Rattle.art_attempt.specs.Cases.{HasLeaf, IsLockedBy, LocksChecked, cells_of}
 use Rattle.art_attempt.specs.Rooms.{number_for}
 use Rattle.art_attempt.specs.Trying.{HasSpent, IsKey, IsLater, StillTries, StoodAtCheck, WasChecked}
 use Rattle.art_attempt.specs.declared.attempts.Attempt.{Attempt}
+use Rattle.art_attempt.specs.declared.attempts.Stage.{Stage}
 use Rattle.art_attempt.specs.declared.cases.Case.{Case}
 use Rattle.art_attempt.specs.declared.cases.Case.TheVariants.{NewLeaf, DropLeaf, Shrink, MergeLeaf, MergeNode, Torn}
 use Rattle.art_attempt.specs.declared.rooms.Room.{Room}
@@ -22,21 +22,25 @@ use Rattle.art_cell.specs.declared.layouts.Layout.TheVariants.{Node4}
 use Rattle.art_commit.specs.CommitLaws.{HasNode}
 use Rattle.art_find.specs.Descents.{IsReading}
 use Rattle.art_find.specs.Findings.{IsStanding}
-use Rattle.art_find.specs.Kept.{StaysRead}
-use Rattle.art_find.specs.ReadSets.{node_of}
-use Rattle.art_find.specs.declared.findings.Above.{Above}
+use Rattle.art_find.specs.ReadSets.{above_of}
+use Rattle.art_find.specs.Rereadings.{AreKnown}
+use Rattle.art_find.specs.declared.findings.Above.{Above as CellAbove}
 use Rattle.art_find.specs.declared.findings.Position.{Position}
 use Rattle.art_find.specs.declared.read_sets.ReadSet.{ReadSet}
 use Rattle.art_frame.specs.Stocks.{node_in, words_written}
-use Rattle.art_gather.proofs.Asked.{vouch_asks_look}
-use Rattle.art_gather.proofs.Vouches.{was_vouched}
+use Rattle.art_gather.proofs.Asked.{validate_asks_look}
+use Rattle.art_gather.proofs.LowerSeen.{lower_may_merge, lower_seen, lower_still}
+use Rattle.art_gather.proofs.Validates.{over_stamp, was_vouched}
+use Rattle.art_gather.specs.Naming.{StillStands}
 use Rattle.art_gather.specs.Reserve.{HasAll, StayFound}
-use Rattle.art_gather.specs.Vouching as vouching
-use Rattle.art_gather.specs.Vouching.{CheckedSince, IsVouched, IsVouching, KnowsHere, written_above}
-use Rattle.art_gather.specs.declared.vouching.Vouched.{Vouched}
-use Rattle.art_gather.specs.declared.vouching.Vouched.TheVariants.{Unchanged, Changed}
-use Rattle.art_gather.specs.declared.vouching.Vouching.{Vouching}
-use Rattle.art_gather.specs.declared.vouching.Vouching.TheVariants as vouches
+use Rattle.art_gather.specs.Validate as validate
+use Rattle.art_gather.specs.Validate.{CheckedSince, IsValidated, Knows, NodeStays, stamp_of}
+use Rattle.art_gather.specs.declared.validate.Cells.{Cells}
+use Rattle.art_gather.specs.declared.validate.Role.TheVariants.{Above, Here, Lower}
+use Rattle.art_gather.specs.declared.validate.Validate.{Validate}
+use Rattle.art_gather.specs.declared.validate.Validate.TheVariants as checks
+use Rattle.art_gather.specs.declared.validate.Validated.{Validated}
+use Rattle.art_gather.specs.declared.validate.Validated.TheVariants.{Unchanged, Changed}
 use Rattle.art_machine.proofs.Counting.{Counted, look_counts}
 use Rattle.art_machine.specs.Acting.{Answers, goes_on, telling}
 use Rattle.art_machine.specs.declared.actions.Action.{Action}
@@ -45,23 +49,25 @@ use Rattle.art_make.proofs.PackedLeaves.{packed_leaf}
 use Rattle.art_make.specs.LeafWriter.{IsPacked}
 use Rattle.art_plan.specs.ChooseInsert.Needs.{needs_of}
 use Rattle.art_plan.specs.ChooseInsert.Plans.{HasNeeded, IsLockedAt, LocksOnly}
-use Rattle.art_plan.specs.ChooseInsert.Seen.{IsSeen as IsSeenWhole}
+use Rattle.art_plan.specs.ChooseInsert.Seen.{IsSeen as IsSeenWhole, WasVouched}
 use Rattle.art_plan.specs.ChooseRemove.Losses.{loss_at}
-use Rattle.art_plan.specs.ChooseRemove.Plans.{HasSmaller, IsEitherAt, IsNodeAt}
-use Rattle.art_plan.specs.ChooseRemove.Seen.{AreSeen, IsSeen}
+use Rattle.art_plan.specs.ChooseRemove.Plans.{HasSmaller, IsAnyAt, IsEitherAt, IsNodeAt, MayNotMerge}
+use Rattle.art_plan.specs.ChooseRemove.Seen.{AreSeen, IsLowerSeen, IsSeen, StillKnown}
+use Rattle.art_plan.specs.declared.choose_remove.lowers.Lower.{Lower as LowerNode}
 use Rattle.art_plan.specs.Insert.Cases.{IsInHand}
 use Rattle.art_plan.specs.declared.changes.Change.{Change}
 use Rattle.art_plan.specs.declared.choose_remove.losses.Loss.{Loss}
 use Rattle.art_plan.specs.declared.choose_remove.losses.Loss.TheVariants as loss
+use Rattle.art_step.specs.Views.{size_of}
 use Rattle.art_step.specs.declared.deeds.Deed.{Deed}
 use Rattle.art_step.specs.declared.views.Sizes.{Sizes}
 use Rattle.art_step.specs.declared.views.Stamp.{Stamp}
 use Rattle.art_step.specs.declared.views.View.{View}
 
--- ---- they are vouched for from now on
+-- ---- they are validated from now on
 
-pub vouching_begins : (z : Sizes) (u : View) (n : ℕ) (t : Position) (r : Room) (v : View) → EndsWithin z u n r v → IsStanding z r.row.key.items t r.read_set v → IsVouching z r.row.key.items t r.read_set v v
-vouching_begins z u n t r v so standing = record {
+pub stands_begins : (z : Sizes) (u : View) (n : ℕ) (t : Position) (r : Room) (v : View) → EndsWithin z u n r v → IsStanding z r.row.key.items t r.read_set v → StillStands z r.row.key.items t r.read_set v v
+stands_begins z u n t r v so standing = record {
   reads = record { only = refl; free = so.still.free; pinned = so.still.pinned };
   later = omega arith;
   standing = standing;
@@ -78,57 +84,51 @@ module _ (z : Sizes) (u early : View) (base : StillTries u early) (r : Room) (v 
 
 -- ---- how it ends
 
-pub vouched_as : (m : Vouching) (e : Vouched) → vouching.ended_at m ≡ Some e → m ≡ vouches.Ended e
-vouched_as (vouches.Ended r) e is = ap vouches.Ended (same_Some {A = Vouched} r e is)
-vouched_as (vouches.Above r) e is = cc
-vouched_as (vouches.Here r) e is = cc
-vouched_as vouches.CheckAbove e is = cc
-vouched_as vouches.CheckHere e is = cc
+pub validated_as : (m : Validate) (e : Validated) → validate.ended_at m ≡ Some e → m ≡ checks.Ended e
+validated_as (checks.Ended r) e is = ap checks.Ended (same_Some {A = Validated} r e is)
+validated_as (checks.Read role r) e is = cc
+validated_as (checks.Check role) e is = cc
 
--- a vouching that has not ended met no failure
-going_failures : (t : Position) (m : Vouching) (a : Action) (n : ℕ) → vouching.asks t m ≡ Some a → vouching.failures_of m n ≡ n
-going_failures t (vouches.Above q) a n is = refl
-going_failures t (vouches.Here q) a n is = refl
-going_failures t vouches.CheckAbove a n is = refl
-going_failures t vouches.CheckHere a n is = refl
-going_failures t (vouches.Ended r) a n is = cc
+-- a validation that has not ended met no failure
+going_failures : (t : Position) (o : Cells) (m : Validate) (a : Action) (n : ℕ) → validate.asks t o m ≡ Some a → validate.failures_of m n ≡ n
+going_failures t o (checks.Read role r) a n is = refl
+going_failures t o (checks.Check role) a n is = refl
+going_failures t o (checks.Ended e) a n is = cc
 
 -- so where it ends as changed, it is the answer that does not go on
-pub changed_by : (z : Sizes) (k : List ℕ) (both : Bool) (t : Position) (m m' : Vouching) (read_set read_set' : ReadSet) (d : Deed) (a : Action) (r : Answer) (u v w : View) → vouching.Fits z k both t m read_set u v
-    → vouching.Fits z k both t m' read_set' u w → vouching.asks t m ≡ Some a → Answers z (telling d) a r v w → vouching.ended_at m' ≡ Some Changed → goes_on r ≡ false
-changed_by z k both t m m' read_set read_set' d a r u v w before after is row ended = ⊎_elim
+pub changed_by : (z : Sizes) (k : List ℕ) (t : Position) (o : Cells) (m m' : Validate) (read_set read_set' : ReadSet) (lower lower' : List (Option ℕ)) (d : Deed) (a : Action) (r : Answer) (u v w : View)
+    → validate.Fits z k t o m read_set lower u v → validate.Fits z k t o m' read_set' lower' u w → validate.asks t o m ≡ Some a → Answers z (telling d) a r v w → validate.ended_at m' ≡ Some Changed → goes_on r ≡ false
+changed_by z k t o m m' read_set read_set' lower lower' d a r u v w before after is row ended = ⊎_elim
     (λ (on : goes_on r ≡ true).
-    let step : Counted v w true = subst (Counted v w) on (look_counts z d a r v w (vouch_asks_look t m a is) row) in
+    let step : Counted v w true = subst (Counted v w) on (look_counts z d a r v w (validate_asks_look t o m a is) row) in
     let same = step.failures in
-    let old = before.failures ∙ going_failures t m a u.failures is in
-    let new = after.failures ∙ ap (λ (s : Vouching). vouching.failures_of s u.failures) (vouched_as m' Changed ended) in
+    let old = before.failures ∙ going_failures t o m a u.failures is in
+    let new = after.failures ∙ ap (λ (s : Validate). validate.failures_of s u.failures) (validated_as m' Changed ended) in
     absurd (omega (arith, same, old, new)))
     (λ (off : goes_on r ≡ false). off)
     (cases_Bool (goes_on r))
 
--- no lower node takes the place of the cell
-abbrev pub NoLower : Case → Type 0
-NoLower (MergeNode byte n) = ⊥
-NoLower c = ⊤
+-- as long as it goes on it has only read
+pub validate_reads : (z : Sizes) (k : List ℕ) (t : Position) (o : Cells) (m : Validate) (read_set : ReadSet) (lower : List (Option ℕ)) (u v : View) → validate.StageFits z k t o m read_set lower u v → IsReading u v
+validate_reads z k t o (checks.Read role r) read_set lower u v fits = fits.0.stands.reads
+validate_reads z k t o (checks.Check role) read_set lower u v fits = fits.0.stands.reads
+validate_reads z k t o (checks.Ended Unchanged) read_set lower u v fits = fits.0.stands.reads
+validate_reads z k t o (checks.Ended Changed) read_set lower u v fits = fits
 
-module _ (z : Sizes) (u : View) (m : Attempt) (r : Room) (v : View) (h : HasVouched z u m r v) where
+module _ (z : Sizes) (u : View) (m : Attempt) (s : Validate) (r : Room) (v : View) (h : IsValidating z u m s r v) where
   abbrev k : List ℕ
   k = r.row.key.items
 
   abbrev t : Position
   t = m.position
 
-  abbrev both : Bool
-  both = both_of m.case t.verdict
-
-  abbrev StageOf : Vouching → Type 0
-  StageOf s = vouching.StageFits z k both t s r.read_set h.early v
+  abbrev o : Cells
+  o = cells_of m.case t.verdict
 
   -- it goes on
-  pub vouched_on : (w : View) (next : Vouching) (read_set : ReadSet) → v.steps ≤ w.steps → StayFound v w → StaysRead (node_of r.read_set) (node_of read_set)
-      → (KnowsHere t r.read_set → node_of read_set ≡ node_of r.read_set) → vouching.Fits z k both t next read_set h.early w
-      → HasVouched z u (record m { vouching = next }) (record r { read_set = read_set }) w
-  vouched_on w next read_set more found stays whole fits =
+  pub validating_on : (w : View) (next : Validate) (read_set : ReadSet) (lower : List (Option ℕ)) → v.steps ≤ w.steps → StayFound v w → NodeStays t r.read_set read_set → validate.Fits z k t o next read_set lower h.early w
+      → IsValidating z u m next (record r { read_set = read_set; lower = lower }) w
+  validating_on w next read_set lower more found node fits =
       let before = h.later.steps in
       let same = fits.failures in
       let few = no_fewer next h.early.failures in
@@ -139,94 +139,125 @@ module _ (z : Sizes) (u : View) (m : Attempt) (r : Room) (v : View) (h : HasVouc
         spent = h.spent;
         has = h.has;
         case = h.case;
-        known = known_on z u t r read_set v w found stays whole m.case h.known;
+        known = known_on z u t r read_set lower v w found node.stays node.whole m.case h.known;
         fits = fits;
       }
 
-  vouched_reads : (e : Vouched) → vouching.ended_at m.vouching ≡ Some e → StageOf (vouches.Ended e)
-  vouched_reads e is = subst StageOf (vouched_as m.vouching e is) h.fits.stage
+  -- at whatever stage
+  pub validating_at : (g : Stage) → IsValidating z u (record m { stage = g }) s r v
+  validating_at g = record { early = h.early; base = h.base; later = h.later; spent = h.spent; has = h.has; case = h.case; known = h.known; fits = h.fits }
 
-  pub vouched_ends : IsReading h.early v → EndsWithin z u 22300 r v
-  vouched_ends reads = reading_so z u h.early h.base r v h.later h.has reads 22300
+  pub validating_so : EndsWithin z u 22500 r v
+  validating_so = reading_so z u h.early h.base r v h.later h.has (validate_reads z k t o s r.read_set r.lower h.early v h.fits.stage) 22500
       (λ limited. let spent = h.spent limited in let steps = h.fits.steps in let more = h.later.failures in omega (arith, spent, steps, more))
 
-  pub vouched_changed : vouching.ended_at m.vouching ≡ Some Changed → EndsSo z u r v × (u.failures < v.failures)
-  vouched_changed is =
-      let more = h.fits.failures ∙ ap (λ (s : Vouching). vouching.failures_of s h.early.failures) (vouched_as m.vouching Changed is) in
+  pub validating_changed : validate.ended_at s ≡ Some Changed → EndsSo z u r v × (u.failures < v.failures)
+  validating_changed is =
+      let more = h.fits.failures ∙ ap (λ (q : Validate). validate.failures_of q h.early.failures) (validated_as s Changed is) in
       let before = h.base.later.failures in
-      (within_so z u 22300 r v (omega arith) (vouched_ends (vouched_reads Changed is)), omega (arith, more, before))
+      (within_so z u 22500 r v (omega arith) validating_so, omega (arith, more, before))
 
-  module _ (is : vouching.ended_at m.vouching ≡ Some Unchanged) where
-    pub vouched_so : EndsWithin z u 22300 r v
-    vouched_so = vouched_ends (vouched_reads Unchanged is).0.reads
+-- ---- all words were known, and each cell was checked
 
-    pub vouched_standing : IsStanding z k t r.read_set v
-    vouched_standing = (vouched_reads Unchanged is).0.standing
+module _ (z : Sizes) (u : View) (m : Attempt) (r : Room) (v : View) (h : IsValidating z u m (checks.Ended Unchanged) r v) where
+  abbrev key : List ℕ
+  key = r.row.key.items
 
-    pub vouched_stood : StoodAtCheck z u k t r.read_set v
-    vouched_stood = stood_now z u k t r.read_set h.early v h.base (vouched_reads Unchanged is).2 vouched_standing
+  abbrev at : Position
+  at = m.position
 
-    vouched_is : IsVouched z k both t r.read_set h.early v
-    vouched_is = (vouched_reads Unchanged is).1
+  abbrev cells : Cells
+  cells = cells_of m.case at.verdict
 
-    -- a cell that was vouched for was checked in this attempt
-    vouched_checked : (x : Stamp) → CheckedSince z k t r.read_set h.early x v → WasChecked u x v
-    vouched_checked x checked = checked_since u h.early h.base z k t r.read_set x v checked
+  knows : Knows z key at cells r.read_set r.lower h.early v
+  knows = h.fits.stage.0
 
-    node_checked : (x : Stamp) → IsNodeAt t x → WasChecked u x v
-    node_checked x at = subst (λ (y : Stamp). WasChecked u y v) (sym at) (vouched_checked t.stamp vouched_is.here)
+  done : IsValidated z key at cells r.read_set r.lower h.early v
+  done = h.fits.stage.1
 
-    above_checked : both ≡ true → (a : Above) → t.above ≡ Some a → (x : Stamp) → x ≡ a.stamp → WasChecked u x v
-    above_checked wants a at x same =
-        subst (λ (y : Stamp). WasChecked u y v) (sym same) (vouched_checked a.stamp (vouched_is.above a (ap (λ (b : Bool). written_above b t) wants ∙ at)))
+  pub validated_so : EndsWithin z u 22500 r v
+  validated_so = validating_so z u m (checks.Ended Unchanged) r v h
 
-    either_checked : both ≡ true → (x : Stamp) → IsEitherAt t x → WasChecked u x v
-    either_checked wants x = ⊎_elim (node_checked x) (λ (q : (a : Above) × (t.above ≡ Some a) × (x ≡ a.stamp)). above_checked wants q.0 q.1 x q.2)
+  pub validated_standing : IsStanding z key at r.read_set v
+  validated_standing = knows.stands.standing
 
-    new_checked : m.case ≡ NewLeaf → (x : Stamp) → IsLockedAt t x → WasChecked u x v
-    new_checked case x = ⊎_elim (node_checked x)
-        (λ (q : (a : Above) × (t.above ≡ Some a) × ((needs_of t.verdict).above ≡ true) × (x ≡ a.stamp)). above_checked (ap (λ (c : Case). both_of c t.verdict) case ∙ q.2) q.0 q.1 x q.3)
+  pub validated_stood : StoodAtCheck z u key at r.read_set v
+  validated_stood = stood_now z u key at r.read_set h.early v h.base done.just validated_standing
 
-    vouched_each : (c : Case) → m.case ≡ c → NoLower c → (x : Stamp) → IsLockedBy c t x → WasChecked u x v
-    vouched_each NewLeaf at none x locked = new_checked at x locked
-    vouched_each DropLeaf at none x locked = node_checked x locked
-    vouched_each (Shrink layout) at none x locked = either_checked (ap (λ (c : Case). both_of c t.verdict) at) x locked
-    vouched_each (MergeLeaf other) at none x locked = either_checked (ap (λ (c : Case). both_of c t.verdict) at) x locked
-    vouched_each (MergeNode byte n) at none x locked = absurd none
-    vouched_each Torn at none x locked = absurd locked
+  was : (x : Stamp) → CheckedSince z key at cells r.read_set r.lower h.early x v → WasChecked u x v
+  was x checked = checked_since u h.early h.base z key at cells r.read_set r.lower x v checked
 
-    pub vouched_locks : (c : Case) → m.case ≡ c → NoLower c → (change : Change) → LocksOnly (IsLockedBy c t) change → LocksOnly (LocksChecked u c t v) change
-    vouched_locks c at none change only i x is = let by = only i x is in record { by = by; checked = vouched_each c at none x.stamp by }
+  node_checked : (x : Stamp) → IsNodeAt at x → WasChecked u x v
+  node_checked x is = subst (λ (y : Stamp). WasChecked u y v) (sym is) (was at.stamp (done.checked Here at.stamp refl))
 
-    seen_key : IsSeen z k t r.read_set
-    seen_key = (was_vouched z k t r.read_set h.early t.stamp v vouched_is.here, vouched_is.whole)
+  above_checked : cells.above ≡ true → (a : CellAbove) → at.above ≡ Some a → (x : Stamp) → x ≡ a.stamp → WasChecked u x v
+  above_checked wide a is x same = subst (λ (y : Stamp). WasChecked u y v) (sym same) (was a.stamp (done.checked Above a.stamp (over_stamp at cells a wide is)))
 
-    above_seen : both ≡ true → (a : Above) → t.above ≡ Some a → written_above both t ≡ Some a
-    above_seen wants a at = ap (λ (b : Bool). written_above b t) wants ∙ at
+  either_checked : cells.above ≡ true → (x : Stamp) → IsEitherAt at x → WasChecked u x v
+  either_checked wide x = ⊎_elim (node_checked x) (λ (q : (a : CellAbove) × (at.above ≡ Some a) × (x ≡ a.stamp)). above_checked wide q.0 q.1 x q.2)
 
-    -- all that is written was seen: of an insert
-    pub seen_new : m.case ≡ NewLeaf → IsSeenWhole z k t r.read_set
-    seen_new case = record {
-      vouched = was_vouched z k t r.read_set h.early t.stamp v vouched_is.here;
-      whole = vouched_is.whole;
-      above = λ a at wants.
-          let there = above_seen (ap (λ (c : Case). both_of c t.verdict) case ∙ wants) a at in
-          (was_vouched z k t r.read_set h.early a.stamp v (vouched_is.above a there), vouched_is.all a there);
-    }
+  new_checked : m.case ≡ NewLeaf → (x : Stamp) → IsLockedAt at x → WasChecked u x v
+  new_checked case x = ⊎_elim (node_checked x)
+      (λ (q : (a : CellAbove) × (at.above ≡ Some a) × ((needs_of at.verdict).above ≡ true) × (x ≡ a.stamp)). above_checked (ap (λ (c : Case). (cells_of c at.verdict).above) case ∙ q.2) q.0 q.1 x q.3)
 
-    -- and of a removal
-    module _ (leaf : HasLeaf t r) where
-      pub seen_here : IsSeen z r.gone.key.items t r.read_set
-      seen_here = subst (λ (a : ArrayVec ℕ). IsSeen z a.items t r.read_set) (sym leaf.key) seen_key
+  any_checked : (l : LowerNode) → m.case ≡ MergeNode l → (x : Stamp) → IsAnyAt at l x → WasChecked u x v
+  any_checked l case x = ⊎_elim (either_checked (ap (λ (c : Case). (cells_of c at.verdict).above) case) x)
+      (λ (same : x ≡ l.stamp). subst (λ (y : Stamp). WasChecked u y v) (sym same)
+      (was l.stamp (done.checked Lower l.stamp (ap (λ (c : Case). stamp_of at (cells_of c at.verdict) Lower) case))))
 
-      pub seen_both : both ≡ true → AreSeen z r.gone.key.items t r.read_set
-      seen_both wants = subst (λ (a : ArrayVec ℕ). AreSeen z a.items t r.read_set) (sym leaf.key) (record {
-        node = seen_key;
-        above = λ a at. let there = above_seen wants a at in (was_vouched z k t r.read_set h.early a.stamp v (vouched_is.above a there), vouched_is.all a there);
-      })
+  each_checked : (c : Case) → m.case ≡ c → (x : Stamp) → IsLockedBy c at x → WasChecked u x v
+  each_checked NewLeaf is x locked = new_checked is x locked
+  each_checked DropLeaf is x locked = node_checked x locked
+  each_checked (Shrink layout) is x locked = either_checked (ap (λ (c : Case). (cells_of c at.verdict).above) is) x locked
+  each_checked (MergeLeaf other) is x locked = either_checked (ap (λ (c : Case). (cells_of c at.verdict).above) is) x locked
+  each_checked (MergeNode l) is x locked = any_checked l is x locked
+  each_checked Torn is x locked = absurd locked
 
-      pub gone_standing : IsStanding z r.gone.key.items t r.read_set v
-      gone_standing = subst (λ (a : ArrayVec ℕ). IsStanding z a.items t r.read_set v) (sym leaf.key) vouched_standing
+  -- each cell that a plan of this case locks was checked in this attempt
+  pub validated_locks : (c : Case) → m.case ≡ c → (change : Change) → LocksOnly (IsLockedBy c at) change → LocksOnly (LocksChecked u c at v) change
+  validated_locks c is change only i x there = let by = only i x there in record { by = by; checked = each_checked c is x.stamp by }
+
+  vouched : (x : Stamp) → CheckedSince z key at cells r.read_set r.lower h.early x v → WasVouched z key at r.read_set x
+  vouched x checked = was_vouched z key at cells r.read_set r.lower h.early x v checked
+
+  seen_key : IsSeen z key at r.read_set
+  seen_key = (vouched at.stamp (done.checked Here at.stamp refl), done.words Here at.stamp refl)
+
+  above_seen : cells.above ≡ true → (a : CellAbove) → at.above ≡ Some a → WasVouched z key at r.read_set a.stamp × AreKnown (above_of r.read_set) 1 (size_of a.stamp.cell)
+  above_seen wide a is = let there = over_stamp at cells a wide is in (vouched a.stamp (done.checked Above a.stamp there), done.words Above a.stamp there)
+
+  -- all that is written was seen: of an insert
+  pub seen_new : m.case ≡ NewLeaf → IsSeenWhole z key at r.read_set
+  seen_new case = record {
+    vouched = seen_key.0;
+    whole = seen_key.1;
+    above = λ a is wants. above_seen (ap (λ (c : Case). (cells_of c at.verdict).above) case ∙ wants) a is;
+  }
+
+  -- and of a removal
+  module _ (leaf : HasLeaf at r) where
+    pub seen_here : IsSeen z r.gone.key.items at r.read_set
+    seen_here = subst (λ (a : ArrayVec ℕ). IsSeen z a.items at r.read_set) (sym leaf.key) seen_key
+
+    pub seen_both : cells.above ≡ true → AreSeen z r.gone.key.items at r.read_set
+    seen_both wide = subst (λ (a : ArrayVec ℕ). AreSeen z a.items at r.read_set) (sym leaf.key) (record { node = seen_key; above = above_seen wide })
+
+    pub gone_standing : IsStanding z r.gone.key.items at r.read_set v
+    gone_standing = subst (λ (a : ArrayVec ℕ). IsStanding z a.items at r.read_set v) (sym leaf.key) validated_standing
+
+  -- with the node below
+  module _ (l : LowerNode) (is : m.case ≡ MergeNode l) where
+    below_is : cells.lower ≡ Some l
+    below_is = ap (λ (c : Case). (cells_of c at.verdict).lower) is
+
+    pub below_seen : IsLowerSeen z l r.lower
+    below_seen = lower_seen z key at cells r.read_set r.lower l below_is h.early v knows done
+
+    pub below_still : StillKnown z v l r.lower
+    below_still = lower_still z key at cells r.read_set r.lower l below_is h.early v knows done
+
+    pub below_merges : MayNotMerge at r.read_set l r.lower → ⊥
+    below_merges = lower_may_merge z key at cells r.read_set r.lower l below_is h.early v knows done (ap (λ (c : Case). (cells_of c at.verdict).above) is)
 
 -- ---- what a leaf that comes needs
 

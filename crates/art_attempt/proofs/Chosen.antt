@@ -21,14 +21,15 @@ use Rattle.art_make.specs.Apply.{KeepsCheck}
 use Rattle.art_attempt.proofs.LastCheck.{none_stays, stood_stays}
 use Rattle.art_gather.specs.Reserve.{StayFound}
 use Rattle.art_attempt.specs.Attempts.{GoesBy, IsExhausted, IsKnown, WantsNumbers}
-use Rattle.art_attempt.specs.Cases.{HasLeaf, HasNoSmaller, IsCaseOf, IsChosen, IsNeverSeen, IsTold, IsWay, LeafGoes, LeavesOther, LocksChecked, MayStay, demand_of, effects_of, leaves_by}
+use Rattle.art_attempt.specs.Cases.{HasLeaf, HasNoSmaller, IsCaseOf, IsChosen, IsNeverSeen, IsTold, IsWay, LeafGoes, LeavesOther, LocksChecked, MayStay, cells_of, demand_of, effects_of, leaves_by}
 use Rattle.art_attempt.specs.declared.attempts.Job.{Job}
 use Rattle.art_attempt.specs.declared.attempts.Job.TheVariants.{Insert, Remove}
 use Rattle.art_attempt.specs.declared.cases.Case.{Case}
 use Rattle.art_attempt.specs.declared.cases.Case.TheVariants as case
 use Rattle.art_frame.specs.declared.stocks.Stock.{Stock}
 use Rattle.art_gather.specs.Reserve.{HasNone}
-use Rattle.art_gather.specs.Vouching.{HasJustChecked, KnowsHere}
+use Rattle.art_gather.specs.Naming.{KnowsHere}
+use Rattle.art_gather.specs.Validate.{HasJustChecked}
 use Rattle.art_find.proofs.FoundPlaces.{standing_grows}
 use Rattle.art_find.proofs.Keeping.{Grows}
 use Rattle.art_find.specs.Findings.{IsStanding}
@@ -94,7 +95,9 @@ module _ (t : Position) (read_set now : ReadSet) where
   chosen_stays z (case.MergeLeaf other) old s u v stays node c =
       let same = node c.0 in
       (knows_same same c.0, (c.1.0, leaves_same same z old c.1.0 _ c.1.1))
-  chosen_stays z (case.MergeNode byte n) old s u v stays node c = absurd c
+  chosen_stays z (case.MergeNode l) old s u v stays node c =
+      let same = node c.0 in
+      (knows_same same c.0, leaves_same same z old l.byte _ c.1)
   chosen_stays z case.Torn old s u v stays node c = let same = node c.0 in (knows_same same c.0, never_same same z old c.1)
 
 -- ---- what was found stays found
@@ -119,7 +122,7 @@ module _ (v w : View) (keeps : StayFound v w) where
   chosen_later z case.DropLeaf t read_set old s u c = stays_later z t read_set u u (omega arith) c
   chosen_later z (case.Shrink layout) t read_set old s u c = c
   chosen_later z (case.MergeLeaf other) t read_set old s u c = c
-  chosen_later z (case.MergeNode byte n) t read_set old s u c = c
+  chosen_later z (case.MergeNode l) t read_set old s u c = c
   chosen_later z case.Torn t read_set old s u c = c
 
   pub told_later : (z : Sizes) (c : Case) (t : Position) (read_set : ReadSet) (old : OldLeaf) (u b : View) → u.steps ≤ b.steps → IsTold z c t read_set old b v → IsTold z c t read_set old u w
@@ -127,7 +130,7 @@ module _ (v w : View) (keeps : StayFound v w) where
   told_later z case.DropLeaf t read_set old u b before c = stays_later z t read_set u b before c
   told_later z (case.Shrink layout) t read_set old u b before c = c
   told_later z (case.MergeLeaf other) t read_set old u b before c = c
-  told_later z (case.MergeNode byte n) t read_set old u b before c = c
+  told_later z (case.MergeNode l) t read_set old u b before c = c
   told_later z case.Torn t read_set old u b before c = c
 
 -- ---- a change goes by the way
@@ -152,7 +155,7 @@ case_comes Insert case.NewLeaf is of = refl
 case_comes Insert case.DropLeaf is of = absurd of
 case_comes Insert (case.Shrink layout) is of = absurd of
 case_comes Insert (case.MergeLeaf other) is of = absurd of
-case_comes Insert (case.MergeNode byte n) is of = absurd of
+case_comes Insert (case.MergeNode l) is of = absurd of
 case_comes Insert case.Torn is of = absurd of
 case_comes Remove c is of = cc
 
@@ -162,7 +165,7 @@ comes_insert Remove case.NewLeaf is of = absurd of
 comes_insert Remove case.DropLeaf is of = cc
 comes_insert Remove (case.Shrink layout) is of = cc
 comes_insert Remove (case.MergeLeaf other) is of = cc
-comes_insert Remove (case.MergeNode byte n) is of = cc
+comes_insert Remove (case.MergeNode l) is of = cc
 comes_insert Remove case.Torn is of = cc
 
 pub goes_remove : (j : Job) (c : Case) → IsCaseOf Remove c → IsCaseOf j c → j ≡ Remove
@@ -171,7 +174,7 @@ goes_remove Insert case.NewLeaf goes of = absurd goes
 goes_remove Insert case.DropLeaf goes of = absurd of
 goes_remove Insert (case.Shrink layout) goes of = absurd of
 goes_remove Insert (case.MergeLeaf other) goes of = absurd of
-goes_remove Insert (case.MergeNode byte n) goes of = absurd of
+goes_remove Insert (case.MergeNode l) goes of = absurd of
 goes_remove Insert case.Torn goes of = absurd of
 
 module _ (z : Sizes) (u : View) (t : Position) (r : Room) (v : View) where
@@ -180,7 +183,7 @@ module _ (z : Sizes) (u : View) (t : Position) (r : Room) (v : View) where
   leaf_way case.DropLeaf goes way = way
   leaf_way (case.Shrink layout) goes way = way
   leaf_way (case.MergeLeaf other) goes way = way
-  leaf_way (case.MergeNode byte n) goes way = way
+  leaf_way (case.MergeNode l) goes way = way
   leaf_way case.Torn goes way = way
 
   pub leaf_effects : (c : Case) → IsCaseOf Remove c → effects_of c t r.row r.gone ≡ remove_effects r.gone (leaves_by c t)
@@ -188,8 +191,17 @@ module _ (z : Sizes) (u : View) (t : Position) (r : Room) (v : View) where
   leaf_effects case.DropLeaf goes = refl
   leaf_effects (case.Shrink layout) goes = refl
   leaf_effects (case.MergeLeaf other) goes = refl
-  leaf_effects (case.MergeNode byte n) goes = refl
+  leaf_effects (case.MergeNode l) goes = refl
   leaf_effects case.Torn goes = refl
+
+  -- no node below is validated where numbers are wanted
+  pub none_below : (c : Case) → WantsNumbers z u c t r v → (cells_of c t.verdict).lower ≡ None
+  none_below case.NewLeaf w = refl
+  none_below case.DropLeaf w = absurd w
+  none_below (case.Shrink layout) w = refl
+  none_below (case.MergeLeaf other) w = absurd w
+  none_below (case.MergeNode l) w = absurd w
+  none_below case.Torn w = absurd w
 
   -- whatever numbers are in hand
   pub wants_same : (c : Case) (stock : Stock) → WantsNumbers z u c t r v → WantsNumbers z u c t (record r { stock = stock }) v
@@ -197,14 +209,14 @@ module _ (z : Sizes) (u : View) (t : Position) (r : Room) (v : View) where
   wants_same case.DropLeaf stock w = absurd w
   wants_same (case.Shrink layout) stock w = (record { found = w.0.found; key = w.0.key }, w.1)
   wants_same (case.MergeLeaf other) stock w = absurd w
-  wants_same (case.MergeNode byte n) stock w = absurd w
+  wants_same (case.MergeNode l) stock w = absurd w
   wants_same case.Torn stock w = absurd w
 
 -- what was found stays known while words are read
-module _ (z : Sizes) (u : View) (t : Position) (r : Room) (read_set : ReadSet) (v w : View) (found : StayFound v w) (stays : StaysRead (node_of r.read_set) (node_of read_set))
+module _ (z : Sizes) (u : View) (t : Position) (r : Room) (read_set : ReadSet) (lower : List (Option ℕ)) (v w : View) (found : StayFound v w) (stays : StaysRead (node_of r.read_set) (node_of read_set))
     (node : KnowsHere t r.read_set → node_of read_set ≡ node_of r.read_set) where
   abbrev then : Room
-  then = record r { read_set = read_set }
+  then = record r { read_set = read_set; lower = lower }
 
   leaf_known : (c : Case) → HasLeaf t r × IsChosen z c t r.read_set r.gone r.stock u v → HasLeaf t then × IsChosen z c t read_set r.gone r.stock u w
   leaf_known c k =
@@ -215,7 +227,7 @@ module _ (z : Sizes) (u : View) (t : Position) (r : Room) (read_set : ReadSet) (
   known_on case.DropLeaf k = leaf_known case.DropLeaf k
   known_on (case.Shrink layout) k = leaf_known (case.Shrink layout) k
   known_on (case.MergeLeaf other) k = leaf_known (case.MergeLeaf other) k
-  known_on (case.MergeNode byte n) k = leaf_known (case.MergeNode byte n) k
+  known_on (case.MergeNode l) k = leaf_known (case.MergeNode l) k
   known_on case.Torn k = leaf_known case.Torn k
 
 module _ (z : Sizes) (u : View) (t : Position) where
@@ -237,7 +249,7 @@ module _ (z : Sizes) (u : View) (t : Position) where
     way_since case.DropLeaf way = leaf_since case.DropLeaf way
     way_since (case.Shrink layout) way = leaf_since (case.Shrink layout) way
     way_since (case.MergeLeaf other) way = leaf_since (case.MergeLeaf other) way
-    way_since (case.MergeNode byte n) way = leaf_since (case.MergeNode byte n) way
+    way_since (case.MergeNode l) way = leaf_since (case.MergeNode l) way
     way_since case.Torn way = leaf_since case.Torn way
 
     pub goes_since : (c : Case) → GoesBy z b t c had v → GoesBy z u t c r w

@@ -39,7 +39,6 @@ use Rattle.art_step.specs.declared.deeds.Deed.TheVariants.{Done}
 use Rattle.art_step.specs.declared.faults.UpgradeFault.{UpgradeFault}
 use Rattle.art_step.specs.declared.faults.UpgradeFault.TheVariants as fault
 use Rattle.art_step.specs.declared.views.Sizes.{Sizes}
-use Rattle.art_step.specs.declared.views.Stamp.{Stamp}
 use Rattle.art_step.specs.declared.views.View.{View}
 
 -- ---- a plan for a leaf that goes
@@ -142,18 +141,17 @@ module _ (z : Sizes) (u : View) (m : Attempt) (r : Room) (v : View) (h : HasMade
             let more = failed.fails.3 in
             let before = h.base.later.failures in
             (so (fault.Changed c) failed, omega (arith, more, before))
-        by_fault (fault.Exhausted c) failed =
-            (
-              so (fault.Exhausted c) failed,
-              record {
-                case = h.case;
-                deed = h.deed;
-                goes = h.goes;
-                index = failed.index;
-                target = failed.target;
-                is = failed.is;
-                cell_is = failed.fails.0;
-                at_end = failed.fails.1;
-                locks = h.locks failed.index failed.target failed.is;
-              },
-            )
+        by_fault (fault.Exhausted c) failed = (
+          so (fault.Exhausted c) failed,
+          record {
+            case = h.case;
+            deed = h.deed;
+            goes = h.goes;
+            index = failed.index;
+            target = failed.target;
+            is = failed.is;
+            cell_is = failed.fails.0;
+            at_end = failed.fails.1;
+            locks = h.locks failed.index failed.target failed.is;
+          },
+        )

@@ -3,11 +3,11 @@ use Rattle.std.proofs.Common.{◌≡◌, ◌∙◌, ◌+◌, ℕ, nat_lt, Bool, 
 use Rattle.std.proofs.lemmas.Option.{same_Some}
 use Rattle.art_attempt.proofs.Finds.{finding_allowed}
 use Rattle.art_attempt.proofs.Given.{ask_looks, look_once, look_row, made_row, plain_row, supply_once, supply_plain}
-use Rattle.art_gather.proofs.Asked.{if_some, lower_asks_look, reads_look, supply_asks_supply, vouch_asks_look}
+use Rattle.art_gather.proofs.Asked.{if_some, naming_asks_look, reads_look, supply_asks_supply, validate_asks_look}
 use Rattle.art_make.proofs.Keeping.{asks_made}
 use Rattle.art_attempt.specs.Asking.{Answers, given}
 use Rattle.art_attempt.specs.Attempts.{Fits, StageFits, asks, asks_at, deed_at}
-use Rattle.art_attempt.specs.Cases.{demand_of, made_by}
+use Rattle.art_attempt.specs.Cases.{cells_of, demand_of, made_by}
 use Rattle.art_attempt.specs.declared.attempts.Attempt.{Attempt}
 use Rattle.art_attempt.specs.declared.attempts.Stage.{Stage}
 use Rattle.art_attempt.specs.declared.attempts.Stage.TheVariants as stage
@@ -90,9 +90,9 @@ module _ (z : Sizes) (u : View) (m : Attempt) (r : Room) (v w : View) (a : Actio
   made_at stage.Finding fits is = look_made z v w (deed_at m r) r.change a answer row (ask_looks z (deed_at m r) v a (finding_allowed z u m r v fits a is))
   made_at stage.Reserve fits is =
       supply_made z v w (deed_at m r) r.change a answer row (demand_of z m.case m.position.verdict) r.row.key.items r.row.value r.stock fits.0.early m.reserve fits.0.fits is
-  made_at stage.Vouching fits is = look_made z v w (deed_at m r) r.change a answer row (vouch_asks_look m.position m.vouching a is)
+  made_at (stage.Validate s) fits is = look_made z v w (deed_at m r) r.change a answer row (validate_asks_look m.position (cells_of m.case m.position.verdict) s a is)
   made_at (stage.Reading q) fits is = look_made z v w (deed_at m r) r.change a answer row (reads_look m.position.stamp q a is)
-  made_at stage.Lowering fits is = look_made z v w (deed_at m r) r.change a answer row (lower_asks_look m.position m.lowering a is)
+  made_at (stage.Naming byte n s) fits is = look_made z v w (deed_at m r) r.change a answer row (naming_asks_look m.position s a is)
   made_at stage.Apply fits is = change_made z v w (deed_at m r) r.change a answer row fits.0.early m.apply fits.0.fits is
   made_at (stage.Ended e) fits is = absurd (cc)
 
@@ -106,8 +106,8 @@ module _ (z : Sizes) (u : View) (m : Attempt) (r : Room) (v : View) (c : Cell) (
   deed_made stage.Finding fits is = absurd (ask_looks z (deed_at m r) v (Commit c b) (finding_allowed z u m r v fits (Commit c b) is))
   deed_made stage.Reserve fits is = absurd (supply_asks_supply r.row.key.items r.row.value r.stock m.reserve (Commit c b) is)
   deed_made (stage.Reading q) fits is = absurd (reads_look m.position.stamp q (Commit c b) is)
-  deed_made stage.Vouching fits is = absurd (vouch_asks_look m.position m.vouching (Commit c b) is)
-  deed_made stage.Lowering fits is = absurd (lower_asks_look m.position m.lowering (Commit c b) is)
+  deed_made (stage.Validate s) fits is = absurd (validate_asks_look m.position (cells_of m.case m.position.verdict) s (Commit c b) is)
+  deed_made (stage.Naming byte n s) fits is = absurd (naming_asks_look m.position s (Commit c b) is)
   deed_made stage.Apply fits is = fits.0.deed
   deed_made (stage.Ended e) fits is = cc
 

@@ -321,8 +321,8 @@ within_more z u n more r v fewer so = record {
   has = so.has;
 }
 
-pub within_so : (z : Sizes) (u : View) (n : ℕ) (r : Room) (v : View) → n ≤ 22900 → EndsWithin z u n r v → EndsSo z u r v
-within_so z u n r v fewer so = within_more z u n 22900 r v fewer so
+pub within_so : (z : Sizes) (u : View) (n : ℕ) (r : Room) (v : View) → n ≤ 23100 → EndsWithin z u n r v → EndsSo z u r v
+within_so z u n r v fewer so = within_more z u n 23100 r v fewer so
 
 -- until a place is settled few steps were made
 finding_few : (z : Sizes) (u : View) (m : Attempt) (r : Room) (v : View) → length r.row.key.items ≤ 64 → IsFinding z u m r v → HasSpent z u 1200 v

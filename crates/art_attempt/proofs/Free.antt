@@ -1,14 +1,13 @@
 -- As long as nothing is held, an attempt may be given up with nothing told.
 use Rattle.std.proofs.Common.{◌≡◌, ℕ, ◌<◌, ◌≤◌, length, Bool, true, false, List, [], ◌∷◌, None, inl, refl, sym, ap, ◌∙◌, subst, arith, ⊎_elim}
 use Rattle.std.proofs.lemmas.Bool.{eqb-true}
-use Rattle.art_attempt.proofs.Cells.{reading_so, vouched_ends}
-use Rattle.art_attempt.proofs.Lower.{lower_so}
+use Rattle.art_attempt.proofs.Cells.{reading_so, validating_so}
+use Rattle.art_attempt.proofs.Names.{naming_so}
 use Rattle.art_attempt.proofs.Numbers.{supplies_so}
 use Rattle.art_attempt.proofs.Finds.{ends_reading, within_so}
 use Rattle.art_attempt.proofs.Tries.{later_first, still_later}
-use Rattle.art_attempt.specs.Attempts.{EndsSo, HasMade, HasVouched, IsFinding, IsReadingOn, StageFits, ending_at, free_at}
+use Rattle.art_attempt.specs.Attempts.{EndsSo, HasMade, IsFinding, IsReadingOn, StageFits, ending_at, free_at}
 use Rattle.art_make.specs.Apply.{is_begun}
-use Rattle.art_attempt.specs.Cases.{both_of}
 use Rattle.art_attempt.specs.Trying.{StillTries}
 use Rattle.art_attempt.specs.declared.attempts.Attempt.{Attempt}
 use Rattle.art_attempt.specs.declared.attempts.Stage.{Stage}
@@ -17,10 +16,6 @@ use Rattle.art_attempt.specs.declared.rooms.Room.{Room}
 use Rattle.art_find.proofs.Stages.{still_reading}
 use Rattle.art_find.specs.declared.rereadings.Rereading.{Rereading}
 use Rattle.art_frame.proofs.Stocked.{stock_same}
-use Rattle.art_gather.specs.Vouching as vouching
-use Rattle.art_gather.specs.Vouching.{IsVouching}
-use Rattle.art_gather.specs.declared.vouching.Vouching.{Vouching}
-use Rattle.art_gather.specs.declared.vouching.Vouching.TheVariants as vouches
 use Rattle.art_make.specs.Apply as apply
 use Rattle.art_make.specs.Apply.{IsLocking, so_many}
 use Rattle.art_make.specs.declared.apply.Apply.{Apply}
@@ -75,22 +70,11 @@ begun_made (Ended r) is = cc
 
 -- ---- at each stage
 
-vouching_goes : (z : Sizes) (r : Room) (m : Attempt) (s : Vouching) (u v : View) → vouching.ended_at s ≡ None
-    → vouching.StageFits z r.row.key.items (both_of m.case m.position.verdict) m.position s r.read_set u v → IsVouching z r.row.key.items m.position r.read_set u v
-vouching_goes z r m (vouches.Above q) u v is fits = fits.0
-vouching_goes z r m (vouches.Here q) u v is fits = fits.0
-vouching_goes z r m vouches.CheckAbove u v is fits = fits.0
-vouching_goes z r m vouches.CheckHere u v is fits = fits.0
-vouching_goes z r m (vouches.Ended e) u v is fits = cc
-
 module _ (z : Sizes) (u : View) (m : Attempt) (r : Room) (v : View) where
   finding_so : length r.row.key.items ≤ 64 → IsFinding z u m r v → EndsSo z u r v
   finding_so short f =
       let reads = still_reading z r.row.key.items _ m.finding.descent.depth m.finding.descent.stage f.early v f.going f.fits.descent in
       within_so z u 1201 r v (omega arith) (ends_reading z u m r v v short f (later_first v) (omega arith) reads.only)
-
-  vouching_so : HasVouched z u m r v → vouching.ended_at m.vouching ≡ None → EndsSo z u r v
-  vouching_so h going = within_so z u 22300 r v (omega arith) (vouched_ends z u m r v h (vouching_goes z r m m.vouching h.early v going h.fits.stage).reads)
 
   apply_so : HasMade z u m r v → is_begun m.apply ≡ true → EndsSo z u r v
   apply_so h is =
@@ -111,13 +95,13 @@ module _ (z : Sizes) (u : View) (m : Attempt) (r : Room) (v : View) where
       }
 
   reading_ends : (q : Rereading) → IsReadingOn z u m q r v → EndsSo z u r v
-  reading_ends q f = reading_so z u f.early f.base r v f.later f.has f.reads.reads 22900 (λ limited. let spent = f.spent limited in omega (arith, spent))
+  reading_ends q f = reading_so z u f.early f.base r v f.later f.has f.reads.reads 23100 (λ limited. let spent = f.spent limited in omega (arith, spent))
 
   pub free_so : length r.row.key.items ≤ 64 → (s : Stage) → free_at s m.apply ≡ true → ending_at s ≡ None → StageFits z u s m r v → EndsSo z u r v
   free_so short stage.Finding is going fits = finding_so short fits
   free_so short stage.Reserve is going fits = within_so z u 21700 r v (omega arith) (supplies_so z u m r v fits.0)
   free_so short (stage.Reading q) is going fits = reading_ends q fits.0
-  free_so short stage.Lowering is going fits = within_so z u 22300 r v (omega arith) (lower_so z u m r v fits.0)
-  free_so short stage.Vouching is going fits = vouching_so fits.0 fits.1
+  free_so short (stage.Naming byte n s) is going fits = within_so z u 21702 r v (omega arith) (naming_so z u m byte n s r v fits.0)
+  free_so short (stage.Validate s) is going fits = within_so z u 22500 r v (omega arith) (validating_so z u m s r v fits.0)
   free_so short stage.Apply is going fits = apply_so fits.0 is
   free_so short (stage.Ended e) is going fits = cc

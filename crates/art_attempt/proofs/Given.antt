@@ -12,7 +12,6 @@ use Rattle.art_machine.specs.declared.actions.Answer.TheVariants.{Begun, Word, C
 use Rattle.art_machine.specs.declared.actions.Effects.{Effects}
 use Rattle.art_make.proofs.Keeping.{IsMade}
 use Rattle.art_make.specs.Apply as apply
-use Rattle.art_make.specs.Apply.{put_into, releases}
 use Rattle.art_plan.specs.declared.changes.Change.{Change as ChangeOf}
 use Rattle.art_step.specs.declared.deeds.Deed.{Deed}
 use Rattle.art_step.specs.declared.views.Sizes.{Sizes}

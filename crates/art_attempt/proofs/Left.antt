@@ -41,8 +41,8 @@ pub free_few : (left : ℕ) (s : Stage) (m : Apply) → free_at s m ≡ true →
 free_few left stage.Finding m is = omega arith
 free_few left stage.Reserve m is = omega arith
 free_few left (stage.Reading q) m is = omega arith
-free_few left stage.Lowering m is = omega arith
-free_few left stage.Vouching m is = omega arith
+free_few left (stage.Naming byte n s) m is = omega arith
+free_few left (stage.Validate s) m is = omega arith
 free_few left stage.Apply m is = let same = apply_free left m is in omega arith
 free_few left (stage.Ended ending.New) m is = omega arith
 free_few left (stage.Ended (ending.Present x)) m is = omega arith

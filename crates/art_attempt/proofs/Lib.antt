@@ -12,11 +12,10 @@ pub mod Finds
 pub mod Free
 pub mod Given
 mod Heard
-mod Joins
 pub mod LastCheck
 pub mod Left
 pub mod Looks
-pub mod Lower
+pub mod Names
 pub mod Numbers
 pub mod Overlaps
 mod Rereads

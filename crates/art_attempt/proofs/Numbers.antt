@@ -88,7 +88,7 @@ module _ (z : Sizes) (u : View) (m : Attempt) (r : Room) (v : View) (h : HasSupp
       by DropLeaf all wants = absurd wants
       by (Shrink layout) all wants = (wants.0, (wants.1, all.node layout refl))
       by (MergeLeaf other) all wants = absurd wants
-      by (MergeNode byte n) all wants = absurd wants
+      by (MergeNode l) all wants = absurd wants
       by Torn all wants = absurd wants
 
   -- no smaller node was found: the leaf goes alone
@@ -100,5 +100,5 @@ module _ (z : Sizes) (u : View) (m : Attempt) (r : Room) (v : View) (h : HasSupp
       by DropLeaf of wants none = absurd wants
       by (Shrink layout) of wants none = (wants.0, inr (no_smaller z m.position layout r.read_set u h.early v pool wants.1 h.base none))
       by (MergeLeaf other) of wants none = absurd wants
-      by (MergeNode byte n) of wants none = absurd wants
+      by (MergeNode l) of wants none = absurd wants
       by Torn of wants none = absurd wants

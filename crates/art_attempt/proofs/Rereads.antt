@@ -1,11 +1,13 @@
 -- A word of the node was read: it is read on, or its header has told that the node stays, or gives way to a smaller one.
 use Rattle.std.proofs.Common.{◌≡◌, ◌≢◌, ◌<◌, ◌≤◌, ℕ, nat_lt, true, false, Some, None, ⊎_elim, ◌∙◌, sym, subst, arith}
 use Rattle.std.proofs.lemmas.Bool.{cases_Bool, ltb-true, ltb-false}
-use Rattle.art_gather.proofs.Vouches.{here_on, read_told}
+use Rattle.art_find.proofs.Runs.{one_read}
+use Rattle.art_gather.proofs.Standing.{here_after}
+use Rattle.art_gather.proofs.Validates.{read_told}
 use Rattle.art_gather.proofs.Asked.{reads_look}
 use Rattle.art_attempt.proofs.Steps.{cell_later, cell_step}
 use Rattle.art_attempt.proofs.Tries.{later_then}
-use Rattle.art_gather.specs.Vouching.{IsVouching}
+use Rattle.art_gather.specs.Naming.{StillStands}
 use Rattle.art_attempt.specs.Trying.{HasSpent, IsLater}
 use Rattle.art_attempt.specs.declared.rooms.Room.{Room}
 use Rattle.art_cell.specs.Reads.{word_read}
@@ -58,8 +60,8 @@ module _ (z : Sizes) (u : View) (m : Attempt) (q q' : Rereading) (r : Room) (v w
   past : IsLater h.early w
   past = later_then h.early v w h.later later
 
-  reads : IsVouching z r.row.key.items m.position read_set h.early w
-  reads = here_on z r.row.key.items m.position r.read_set read_set h.early v w m.position.stamp q.place word got h.reads noted.above now.kept
+  reads : StillStands z r.row.key.items m.position read_set h.early w
+  reads = here_after z r.row.key.items m.position r.read_set read_set h.early v w 1 (one_read z v w m.position.stamp q.place word got) h.reads noted.above now.kept
 
   spent : HasSpent z u (reading_most q') w
   spent limited =

@@ -1,11 +1,12 @@
 -- What an attempt that fits knows at the stage where it stands; what stays of an attempt stays on.
 use Rattle.std.proofs.Common.{◌≡◌, ◌∙◌, subst}
 use Rattle.art_attempt.specs.declared.rooms.Room.{Room}
-use Rattle.art_attempt.specs.Attempts.{Fits, HasLower, HasMade, HasSupplies, HasVouched, IsFinding, IsSameTry, StageFits}
+use Rattle.art_attempt.specs.Attempts.{Fits, HasMade, HasSupplies, IsFinding, IsSameTry, IsValidating, StageFits}
 use Rattle.art_attempt.specs.declared.attempts.Attempt.{Attempt}
 use Rattle.art_attempt.specs.declared.attempts.Stage.{Stage}
 use Rattle.art_attempt.specs.declared.attempts.Stage.TheVariants as stage
 use Rattle.art_find.specs.declared.rereadings.Rereading.{Rereading}
+use Rattle.art_gather.specs.declared.validate.Validate.{Validate}
 use Rattle.art_step.specs.declared.views.Sizes.{Sizes}
 use Rattle.art_step.specs.declared.views.View.{View}
 
@@ -25,11 +26,8 @@ module _ (z : Sizes) (u : View) (m : Attempt) (r : Room) (v : View) where
   pub reads_on : (q : Rereading) → m.stage ≡ stage.Reading q → Fits z u m r v → StageFits z u (stage.Reading q) m r v
   reads_on q is fits = at_stage (stage.Reading q) is fits
 
-  pub has_vouched : m.stage ≡ stage.Vouching → Fits z u m r v → HasVouched z u m r v
-  has_vouched is fits = (at_stage stage.Vouching is fits).0
-
-  pub has_lower : m.stage ≡ stage.Lowering → Fits z u m r v → HasLower z u m r v
-  has_lower is fits = (at_stage stage.Lowering is fits).0
+  pub is_validating : (s : Validate) → m.stage ≡ stage.Validate s → Fits z u m r v → IsValidating z u m s r v
+  is_validating s is fits = (at_stage (stage.Validate s) is fits).0
 
   pub has_made : m.stage ≡ stage.Apply → Fits z u m r v → HasMade z u m r v
   has_made is fits = (at_stage stage.Apply is fits).0

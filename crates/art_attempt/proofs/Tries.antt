@@ -1,11 +1,10 @@
 -- What stays as it was while an attempt goes on, and how it ends with an event.
 use Rattle.std.proofs.Common.{◌≡◌, ℕ, ◌++◌, List, Option, [], ◌∷◌, length, refl, sym, ap, ◌∙◌, subst, arith}
 use Rattle.art_attempt.specs.Trying.{IsLater, StillTries, WasChecked}
-use Rattle.art_cell.specs.declared.cells.Node.{Node}
 use Rattle.art_epoch.specs.Taking.{OnlyTakes}
 use Rattle.art_find.specs.Descents.{IsReading}
-use Rattle.art_gather.specs.Lowering.{CheckedBelow}
-use Rattle.art_gather.specs.Vouching.{CheckedSince}
+use Rattle.art_gather.specs.Validate.{CheckedSince}
+use Rattle.art_gather.specs.declared.validate.Cells.{Cells}
 use Rattle.art_frame.proofs.Stocked.{stock_same}
 use Rattle.art_frame.specs.Stocks.{HasStock}
 use Rattle.art_frame.specs.declared.stocks.Stock.{Stock}
@@ -107,18 +106,10 @@ module _ (u early : View) (base : StillTries u early) where
     }
 
   -- by a check that succeeded since then the word was found since the view u
-  pub checked_since : (z : Sizes) (k : List ℕ) (t : Position) (read_set : ReadSet) (x : Stamp) (v : View) → CheckedSince z k t read_set early x v → WasChecked u x v
-  checked_since z k t read_set x v checked =
+  pub checked_since : (z : Sizes) (k : List ℕ) (t : Position) (o : Cells) (read_set : ReadSet) (lower : List (Option ℕ)) (x : Stamp) (v : View) → CheckedSince z k t o read_set lower early x v → WasChecked u x v
+  checked_since z k t o read_set lower x v checked =
       let first = base.later.steps in
-      let began = checked.vouching.later in
-      let step = ap (λ (s : View). s.steps) checked.passed.is in
-      record { step = checked.after.steps; after = omega (arith, first, began, step); done = checked.done; found = checked.found }
-
-  -- and so by one of a lower node
-  pub below_since : (z : Sizes) (k : List ℕ) (t : Position) (read_set : ReadSet) (n : Node) (x : Stamp) (lower : List (Option ℕ)) (v : View) → CheckedBelow z k t read_set n early x lower v → WasChecked u x v
-  below_since z k t read_set n x lower v checked =
-      let first = base.later.steps in
-      let began = checked.lowering.vouching.later in
+      let began = checked.knows.stands.later in
       let step = ap (λ (s : View). s.steps) checked.passed.is in
       record { step = checked.after.steps; after = omega (arith, first, began, step); done = checked.done; found = checked.found }
 

@@ -1,8 +1,8 @@
 -- What an attempt of a write asks, and what it knows between two of its steps.
-use Rattle.std.specs.Prelude.{◌≡◌, ◌⊎◌, ℕ, ◌-◌, ◌*◌, ◌<◌, ◌≤◌, ◌+◌, ◌++◌, List, [], Option, Some, None, Bool, true, false, ◌==◌, if◌then◌else◌}
+use Rattle.std.specs.Prelude.{◌≡◌, ℕ, ◌-◌, ◌*◌, ◌<◌, ◌≤◌, ◌+◌, ◌++◌, List, [], Option, Some, None, Bool, true, false, ◌==◌, if◌then◌else◌}
 use Rattle.std.specs.Option.{unwrap_or}
 use Rattle.std.specs.Prelude.{Result, Ok, Err, ⊤}
-use Rattle.art_attempt.specs.Cases.{IsCaseOf, IsChosen, LeavesOther, LocksChecked, both_of, demand_of, effects_of, made_by}
+use Rattle.art_attempt.specs.Cases.{IsCaseOf, IsChosen, LeavesOther, LocksChecked, cells_of, demand_of, effects_of, made_by}
 use Rattle.art_attempt.specs.Cases.{ComesThere, HasLeaf, IsWay}
 use Rattle.art_attempt.specs.Trying.{HasSpent, IsCheckOf, IsKey, IsLater, StillTries, StoodAtCheck}
 use Rattle.art_attempt.specs.declared.attempts.Attempt.{Attempt}
@@ -13,7 +13,7 @@ use Rattle.art_attempt.specs.declared.attempts.Job.TheVariants.{Insert, Remove}
 use Rattle.art_attempt.specs.declared.attempts.Stage.{Stage}
 use Rattle.art_attempt.specs.declared.attempts.Stage.TheVariants as stage
 use Rattle.art_attempt.specs.declared.cases.Case.{Case}
-use Rattle.art_attempt.specs.declared.cases.Case.TheVariants.{NewLeaf, Shrink, MergeNode}
+use Rattle.art_attempt.specs.declared.cases.Case.TheVariants.{NewLeaf, Shrink}
 use Rattle.art_attempt.specs.declared.rooms.Room.{Room}
 use Rattle.art_cell.specs.declared.cells.Cell.{Cell as CellOf}
 use Rattle.art_cell.specs.declared.cells.Cell.TheVariants as cell
@@ -27,16 +27,17 @@ use Rattle.art_find.specs.Rereadings.{RereadingFits, reads_next}
 use Rattle.art_find.specs.Verdicts.{value_of}
 use Rattle.art_find.specs.declared.findings.Finding.{Finding}
 use Rattle.art_find.specs.declared.findings.Position.{Position}
-use Rattle.art_find.specs.declared.read_sets.ReadSet.{ReadSet}
 use Rattle.art_find.specs.declared.rereadings.Rereading.{Rereading}
 use Rattle.art_find.specs.declared.verdicts.Verdict.{Verdict}
 use Rattle.art_find.specs.declared.verdicts.Verdict.TheVariants as verdict
 use Rattle.art_frame.specs.Stocks.{HasStock}
-use Rattle.art_gather.specs.Lowering as lowering
+use Rattle.art_gather.specs.Naming as naming
+use Rattle.art_gather.specs.Naming.{StillStands}
 use Rattle.art_gather.specs.Reserve as reserve
 use Rattle.art_gather.specs.Reserve.{HasAll, HasNone}
-use Rattle.art_gather.specs.Vouching as vouching
-use Rattle.art_gather.specs.Vouching.{IsVouching}
+use Rattle.art_gather.specs.Validate as validate
+use Rattle.art_gather.specs.declared.naming.Naming.{Naming}
+use Rattle.art_gather.specs.declared.validate.Validate.{Validate}
 use Rattle.art_machine.specs.Acting.{goes_on, passed}
 use Rattle.art_machine.specs.declared.actions.Action.{Action}
 use Rattle.art_machine.specs.declared.actions.Action.TheVariants.{Check, Settle}
@@ -98,11 +99,11 @@ supply_asks m r = reserve.asks r.row.key.items r.row.value r.stock m.reserve
 abbrev pub reading_asks : Attempt → Rereading → Option Action
 reading_asks m q = reads_next m.position.stamp q
 
-abbrev pub vouching_asks : Attempt → Option Action
-vouching_asks m = vouching.asks m.position m.vouching
+abbrev pub naming_asks : Attempt → Naming → Option Action
+naming_asks m s = naming.asks m.position s
 
-abbrev pub lower_asks : Attempt → Option Action
-lower_asks m = lowering.asks m.position m.lowering
+abbrev pub validate_asks : Attempt → Validate → Option Action
+validate_asks m s = validate.asks m.position (cells_of m.case m.position.verdict) s
 
 abbrev pub apply_asks : Attempt → Room → Option Action
 apply_asks m r = apply.asks r.change m.apply
@@ -111,8 +112,8 @@ abbrev pub asks_at : Stage → Attempt → Room → Option Action
 asks_at stage.Finding m r = finding_asks m.job m.finding
 asks_at stage.Reserve m r = supply_asks m r
 asks_at (stage.Reading q) m r = reading_asks m q
-asks_at stage.Vouching m r = vouching_asks m
-asks_at stage.Lowering m r = lower_asks m
+asks_at (stage.Naming byte n s) m r = naming_asks m s
+asks_at (stage.Validate s) m r = validate_asks m s
 asks_at stage.Apply m r = apply_asks m r
 asks_at (stage.Ended e) m r = None
 
@@ -196,7 +197,7 @@ pub record EndsWithin (z : Sizes) (u : View) (n : ℕ) (r : Room) (v : View) : T
 
 -- so an attempt ends, with few steps
 abbrev pub EndsSo : Sizes → View → Room → View → Type 0
-EndsSo z u r v = EndsWithin z u 22900 r v
+EndsSo z u r v = EndsWithin z u 23100 r v
 
 -- the place is sought
 pub record IsFinding (z : Sizes) (u : View) (m : Attempt) (r : Room) (v : View) : Type 0 where
@@ -250,7 +251,7 @@ pub record IsReadingOn (z : Sizes) (u : View) (m : Attempt) (q : Rereading) (r :
   pub has : HasHand z early r
   pub job : m.job ≡ Remove
   pub leaf : HasLeaf m.position r
-  pub reads : IsVouching z r.row.key.items m.position r.read_set early v
+  pub reads : StillStands z r.row.key.items m.position r.read_set early v
   pub merges : loss_at m.position r.read_set ≡ loss.Merges
   pub fits : RereadingFits z v m.position.stamp q (node_of r.read_set)
 
@@ -259,19 +260,8 @@ abbrev pub IsKnown : Sizes → View → Case → Position → Room → View → 
 IsKnown z u NewLeaf t r v = Comes t.verdict × HasAll (demand_of z NewLeaf t.verdict) r.stock
 IsKnown z u c t r v = HasLeaf t r × IsChosen z c t r.read_set r.gone r.stock u v
 
--- what is still to be read is read, and the cells are checked
-pub record HasVouched (z : Sizes) (u : View) (m : Attempt) (r : Room) (v : View) : Type 0 where
-  pub early : View
-  pub base : StillTries u early
-  pub later : IsLater early v
-  pub spent : HasSpent z u 21700 early
-  pub has : HasHand z early r
-  pub case : IsCaseOf m.job m.case
-  pub known : IsKnown z u m.case m.position r v
-  pub fits : vouching.Fits z r.row.key.items (both_of m.case m.position.verdict) m.position m.vouching r.read_set early v
-
--- the same, with the lower node
-pub record HasLower (z : Sizes) (u : View) (m : Attempt) (r : Room) (v : View) : Type 0 where
+-- the node that takes the place of the one that goes is stamped, and that one is checked; it is its child at this byte
+pub record IsNaming (z : Sizes) (u : View) (m : Attempt) (byte : ℕ) (n : NodeOf) (s : Naming) (r : Room) (v : View) : Type 0 where
   pub early : View
   pub base : StillTries u early
   pub later : IsLater early v
@@ -279,11 +269,19 @@ pub record HasLower (z : Sizes) (u : View) (m : Attempt) (r : Room) (v : View) :
   pub has : HasHand z early r
   pub job : m.job ≡ Remove
   pub leaf : HasLeaf m.position r
-  pub byte : ℕ
-  pub lower : NodeOf
-  pub is : m.case ≡ MergeNode byte lower
-  pub leaves : LeavesOther z m.position r.read_set r.gone byte (node lower)
-  pub fits : lowering.Fits z r.row.key.items m.position lower m.lowering r.read_set r.lower early v
+  pub leaves : LeavesOther z m.position r.read_set r.gone byte (node n)
+  pub fits : naming.Fits z r.row.key.items m.position n s r.read_set r.lower early v
+
+-- what is still to be read is read, and the cells are checked
+pub record IsValidating (z : Sizes) (u : View) (m : Attempt) (s : Validate) (r : Room) (v : View) : Type 0 where
+  pub early : View
+  pub base : StillTries u early
+  pub later : IsLater early v
+  pub spent : HasSpent z u 21702 early
+  pub has : HasHand z early r
+  pub case : IsCaseOf m.job m.case
+  pub known : IsKnown z u m.case m.position r v
+  pub fits : validate.Fits z r.row.key.items m.position (cells_of m.case m.position.verdict) s r.read_set r.lower early v
 
 -- the change is that of the case, which what was read and found tells; it unlinks what the case says, in that order
 pub record GoesBy (z : Sizes) (u : View) (t : Position) (c : Case) (r : Room) (v : View) : Type 0 where
@@ -308,7 +306,7 @@ pub record HasMade (z : Sizes) (u : View) (m : Attempt) (r : Room) (v : View) : 
   pub early : View
   pub base : StillTries u early
   pub later : IsLater early v
-  pub spent : HasSpent z u 22300 early
+  pub spent : HasSpent z u 22500 early
   pub case : IsCaseOf m.job m.case
   pub locks : HasLocks u m r v
   pub goes : GoesBy z u m.position m.case r v
@@ -448,8 +446,8 @@ abbrev pub StageFits : Sizes → View → Stage → Attempt → Room → View �
 StageFits z u stage.Finding m r v = IsFinding z u m r v
 StageFits z u stage.Reserve m r v = HasSupplies z u m r v × (reserve.ended_at m.reserve ≡ None)
 StageFits z u (stage.Reading q) m r v = IsReadingOn z u m q r v × (q.place < size_of m.position.stamp.cell)
-StageFits z u stage.Vouching m r v = HasVouched z u m r v × (vouching.ended_at m.vouching ≡ None)
-StageFits z u stage.Lowering m r v = HasLower z u m r v × (lowering.ended_at m.lowering ≡ None)
+StageFits z u (stage.Naming byte n s) m r v = IsNaming z u m byte n s r v × (naming.ended_at s ≡ None)
+StageFits z u (stage.Validate s) m r v = IsValidating z u m s r v × (validate.ended_at s ≡ None)
 StageFits z u stage.Apply m r v = HasMade z u m r v × (apply.ended_at m.apply ≡ None)
 StageFits z u (stage.Ended e) m r v = EndFits z u m r e v
 

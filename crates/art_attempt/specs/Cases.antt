@@ -6,7 +6,6 @@ use Rattle.art_attempt.specs.declared.attempts.Job.TheVariants.{Insert, Remove}
 use Rattle.art_attempt.specs.declared.cases.Case.{Case}
 use Rattle.art_attempt.specs.declared.cases.Case.TheVariants.{NewLeaf, DropLeaf, Shrink, MergeLeaf, MergeNode, Torn}
 use Rattle.art_attempt.specs.declared.rooms.Room.{Room}
-use Rattle.art_cell.specs.declared.Cell.TheVariants as cell
 use Rattle.art_cell.specs.declared.Link.{Link}
 use Rattle.art_cell.specs.declared.Link.TheVariants.{Leaf as leaf, Node as node}
 use Rattle.art_cell.specs.declared.layouts.Layout.{Layout}
@@ -17,7 +16,8 @@ use Rattle.art_find.specs.declared.verdicts.Verdict.{Verdict}
 use Rattle.art_frame.specs.Stocks.{node_in}
 use Rattle.art_frame.specs.declared.stocks.Stock.{Stock}
 use Rattle.art_gather.specs.Reserve.{HasNone}
-use Rattle.art_gather.specs.Vouching.{KnowsHere}
+use Rattle.art_gather.specs.Naming.{KnowsHere}
+use Rattle.art_gather.specs.declared.validate.Cells.{Cells}
 use Rattle.art_gather.specs.declared.reserve.Demand.{Demand}
 use Rattle.art_machine.specs.declared.actions.Effects.{Effects}
 use Rattle.art_model.specs.declared.commands.Answer.TheVariants as reply
@@ -25,7 +25,7 @@ use Rattle.art_plan.specs.Changes.{targets}
 use Rattle.art_plan.specs.ChooseInsert.Needs.{needs_of}
 use Rattle.art_plan.specs.ChooseInsert.Plans.{Comes, IsLockedAt, gives_way}
 use Rattle.art_plan.specs.ChooseRemove.Losses.{loss_at}
-use Rattle.art_plan.specs.ChooseRemove.Plans.{HasFound, HasOther, IsEitherAt, IsNodeAt, node_words}
+use Rattle.art_plan.specs.ChooseRemove.Plans.{HasFound, HasOther, IsAnyAt, IsEitherAt, IsNodeAt, node_words}
 use Rattle.art_plan.specs.ChooseRemove.Seen.{IsSeen}
 use Rattle.art_plan.specs.Insert.Puts.{insert_effects, inserted}
 use Rattle.art_plan.specs.Remove.Removals.{remove_effects}
@@ -69,14 +69,14 @@ node_for c found = None
 abbrev pub demand_of : Sizes → Case → Verdict → Demand
 demand_of z c found = record { leaf = comes_in c; node = node_for c found; sizes = z }
 
--- whether the cell above is written too
-abbrev pub both_of : Case → Verdict → Bool
-both_of NewLeaf found = (needs_of found).above
-both_of DropLeaf found = false
-both_of (Shrink layout) found = true
-both_of (MergeLeaf other) found = true
-both_of (MergeNode byte n) found = true
-both_of Torn found = false
+-- which cells are validated beside the one where the key stands
+abbrev pub cells_of : Case → Verdict → Cells
+cells_of NewLeaf found = record { above = (needs_of found).above; lower = None }
+cells_of DropLeaf found = record { above = false; lower = None }
+cells_of (Shrink layout) found = record { above = true; lower = None }
+cells_of (MergeLeaf other) found = record { above = true; lower = None }
+cells_of (MergeNode l) found = record { above = true; lower = Some l }
+cells_of Torn found = record { above = false; lower = None }
 
 -- ---- what is locked and unlinked
 
@@ -86,7 +86,7 @@ IsLockedBy NewLeaf t x = IsLockedAt t x
 IsLockedBy DropLeaf t x = IsNodeAt t x
 IsLockedBy (Shrink layout) t x = IsEitherAt t x
 IsLockedBy (MergeLeaf other) t x = IsEitherAt t x
-IsLockedBy (MergeNode byte n) t x = IsEitherAt t x ⊎ (x.cell ≡ cell.Node n)
+IsLockedBy (MergeNode l) t x = IsAnyAt t l x
 IsLockedBy Torn t x = ⊥
 
 -- and since the view u its version word was found as it is stamped
@@ -99,14 +99,14 @@ abbrev pub locks_of : Case → ℕ
 locks_of DropLeaf = 1
 locks_of (Shrink layout) = 2
 locks_of (MergeLeaf other) = 2
-locks_of (MergeNode byte n) = 3
+locks_of (MergeNode l) = 3
 locks_of c = 0
 
 -- the child words of what leaves the tree with the leaf: of the node that names it, unless that stays
 abbrev pub leaves_by : Case → Position → List ℕ
 leaves_by (Shrink layout) t = node_words t.stamp.cell
 leaves_by (MergeLeaf other) t = node_words t.stamp.cell
-leaves_by (MergeNode byte n) t = node_words t.stamp.cell
+leaves_by (MergeNode l) t = node_words t.stamp.cell
 leaves_by c t = []
 
 -- what comes about at the commit: the deed, the leaf, what is unlinked
@@ -152,7 +152,7 @@ IsChosen z NewLeaf t read_set old s u v = ⊥
 IsChosen z DropLeaf t read_set old s u v = MayStay z t read_set u v
 IsChosen z (Shrink layout) t read_set old s u v = (loss_at t read_set ≡ loss.Shrinks layout) × ((i : ℕ) × (node_in s layout ≡ Some i))
 IsChosen z (MergeLeaf other) t read_set old s u v = KnowsHere t read_set × ((byte : ℕ) × LeavesOther z t read_set old byte (leaf other))
-IsChosen z (MergeNode byte n) t read_set old s u v = ⊥
+IsChosen z (MergeNode l) t read_set old s u v = KnowsHere t read_set × LeavesOther z t read_set old l.byte (node l.node)
 IsChosen z Torn t read_set old s u v = KnowsHere t read_set × IsNeverSeen z t read_set old
 
 -- what was read tells this case; from a cell that may shrink a leaf goes alone only where since the view u no free word gave a number
@@ -161,7 +161,7 @@ IsTold z NewLeaf t read_set old u v = ⊥
 IsTold z DropLeaf t read_set old u v = MayStay z t read_set u v
 IsTold z (Shrink layout) t read_set old u v = loss_at t read_set ≡ loss.Shrinks layout
 IsTold z (MergeLeaf other) t read_set old u v = (byte : ℕ) × HasOther t read_set old byte (leaf other)
-IsTold z (MergeNode byte n) t read_set old u v = HasOther t read_set old byte (node n)
+IsTold z (MergeNode l) t read_set old u v = HasOther t read_set old l.byte (node l.node)
 IsTold z Torn t read_set old u v = ⊥
 
 -- the leaf was found where its key stood at the last check, and what was read and found tells the case; so many cells are locked

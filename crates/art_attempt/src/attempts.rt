@@ -11,9 +11,9 @@ ghost use Rattle.art_step.specs.declared.views.Sizes.{Sizes};
 ghost use Rattle.art_step.specs.declared.views.View.{View};
 
 use crate::{Case, Room};
-use art_cell::{Cell, Pool};
+use art_cell::{Cell, Node, Pool};
 use art_find::{Finding, Position, Rereading, Verdict};
-use art_gather::{Lowered, Lowering, Reserve, Reserved, Vouched, Vouching};
+use art_gather::{Naming, Reserve, Reserved, Validate};
 use art_machine::{Action, Answer};
 use art_make::Apply;
 use art_step::{EpochSteps, Stamp};
@@ -57,10 +57,14 @@ pub enum Stage {
     Reserve,
     /// The words of the node that are missing are read, to tell which child it keeps.
     Reading(Rereading),
+    /// The node that takes the place of the one that goes is stamped, and that one, whose child it is at this byte, is checked.
+    Naming {
+        byte: u8,
+        node: Node,
+        naming: Naming,
+    },
     /// What is still to be read is read, and the cells are checked.
-    Vouching,
-    /// The same, with the node that takes the place of the one that goes.
-    Lowering,
+    Validate(Validate),
     /// The change is made.
     Apply,
     Ended(Ending),
@@ -77,8 +81,6 @@ pub struct Attempt {
     /// What is changed, once that is known.
     pub(crate) case: Case,
     pub(crate) reserve: Reserve,
-    pub(crate) vouching: Vouching,
-    pub(crate) lowering: Lowering,
     pub(crate) apply: Apply,
 }
 
@@ -104,8 +106,6 @@ impl Attempt {
             position: nowhere(),
             case: Case::NewLeaf,
             reserve: Reserve::Ended(Reserved::Ready),
-            vouching: Vouching::Ended(Vouched::Changed),
-            lowering: Lowering::Ended(Lowered::Changed),
             apply: Apply::Ended(Ok(())),
         }
     }
@@ -123,8 +123,8 @@ impl Attempt {
             Stage::Finding => self.find_next(),
             Stage::Reserve => self.supply_next(room),
             Stage::Reading(rereading) => self.read_next(rereading),
-            Stage::Vouching => self.vouch_next(),
-            Stage::Lowering => self.lower_next(),
+            Stage::Naming { naming, .. } => self.name_next(naming),
+            Stage::Validate(validate) => self.validate_next(validate),
             Stage::Apply => self.make_next(room),
             Stage::Ended(_) => None,
         }
@@ -147,8 +147,10 @@ impl Attempt {
             Stage::Finding => self.find_told(room, answer),
             Stage::Reserve => self.supply_told(room, answer),
             Stage::Reading(rereading) => self.read_told(room, rereading, answer),
-            Stage::Vouching => self.vouch_told(room, answer),
-            Stage::Lowering => self.lower_told(room, answer),
+            Stage::Naming { byte, node, naming } => self.name_told(
+                room, byte, node, naming, answer,
+            ),
+            Stage::Validate(validate) => self.validate_told(room, validate, answer),
             Stage::Apply => self.make_told(room, answer),
             Stage::Ended(_) => {}
         }
@@ -181,10 +183,10 @@ impl Attempt {
             }
             Stage::Reserve => self.supply_all(steps, room, left),
             Stage::Reading(_) => self.read_all(steps, room, left),
-            Stage::Vouching => self.vouch_all(steps, room, left),
-            Stage::Lowering => self.lower_all(steps, room, left),
+            Stage::Validate(validate) => self.validate_all(steps, room, validate, left),
             Stage::Apply => self.make_all(steps, room, left),
-            Stage::Ended(_) => {}
+            // a naming makes two steps at most
+            Stage::Naming { .. } | Stage::Ended(_) => {}
         }
     }
 

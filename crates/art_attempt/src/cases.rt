@@ -1,11 +1,11 @@
 //! The cases of a write: what each wants in hand, and which cells it writes.
-ghost use Rattle.std.specs.Prelude.{◌≡◌, Bool};
-ghost use Rattle.art_attempt.specs.Cases.{both_of, demand_of};
+ghost use Rattle.std.specs.Prelude.{◌≡◌};
+ghost use Rattle.art_attempt.specs.Cases.{cells_of, demand_of};
 
-use art_cell::{Layout, Node};
+use art_cell::Layout;
 use art_find::Verdict;
-use art_gather::Demand;
-use art_plan::needed;
+use art_gather::{Cells, Demand};
+use art_plan::{Lower, needed};
 use art_step::Sizes;
 
 /// What a write changes.
@@ -19,8 +19,8 @@ pub enum Case {
     Shrink(Layout),
     /// The leaf goes, and its node gives way to its other child, this leaf.
     MergeLeaf(u32),
-    /// The leaf goes, and its node gives way to its other child, this node, at this byte.
-    MergeNode { byte: u8, node: Node },
+    /// The leaf goes, and its node gives way to its other child, this node.
+    MergeNode(Lower),
     /// The words that were read of the leaf's node are those of no node, which its check is about to tell.
     Torn,
 }
@@ -33,21 +33,21 @@ impl Case {
         let (leaf, node) = match self {
             Case::NewLeaf => (true, needed(verdict).node),
             Case::Shrink(layout) => (false, Some(layout)),
-            Case::DropLeaf | Case::MergeLeaf(_) | Case::MergeNode { .. } | Case::Torn => (
-                false, None,
-            ),
+            Case::DropLeaf | Case::MergeLeaf(_) | Case::MergeNode(_) | Case::Torn => (false, None),
         };
         Demand { leaf, node, sizes }
     }
 
-    /// Whether the cell above is written too.
-    pub(crate) fn writes_above(self, verdict: &Verdict) -> bool
-        ensures { result ≡ both_of self verdict.now }
+    /// Which cells are validated beside the one where the key stands.
+    pub(crate) fn cells(self, verdict: &Verdict) -> Cells
+        ensures { result ≡ cells_of self verdict.now }
     {
-        match self {
-            Case::NewLeaf => needed(verdict).above,
-            Case::Shrink(_) | Case::MergeLeaf(_) | Case::MergeNode { .. } => true,
-            Case::DropLeaf | Case::Torn => false,
-        }
+        let (above, lower) = match self {
+            Case::NewLeaf => (needed(verdict).above, None),
+            Case::Shrink(_) | Case::MergeLeaf(_) => (true, None),
+            Case::MergeNode(lower) => (true, Some(lower)),
+            Case::DropLeaf | Case::Torn => (false, None),
+        };
+        Cells { above, lower }
     }
 }

@@ -1,15 +1,13 @@
 //! How an attempt plans its change, and makes it.
 ghost use Rattle.std.specs.Prelude.{◌≡◌, ◌≢◌, ℕ, ◌+◌, ◌-◌, ◌<◌, ◌≤◌, None, Some, true, Result, ⊤};
-ghost use Rattle.art_attempt.specs.Attempts.{EndsWithin, Fits, HasLower, HasMade, HasVouched, IsRoom, IsSameTry, MayMake, apply_asks, apply_left};
+ghost use Rattle.art_attempt.specs.Attempts.{EndsWithin, Fits, HasMade, IsRoom, IsSameTry, IsValidating, MayMake, apply_asks, apply_left};
 ghost use Rattle.art_attempt.specs.Attempts.{ended_at, ended_so, is_free, steps_left};
 ghost use Rattle.art_attempt.specs.Attempts.{given_up, written};
 ghost use Rattle.art_attempt.specs.declared.attempts.Ending.TheVariants.{Restart as anew, Overlaps as overlaps};
 ghost use Rattle.art_attempt.specs.declared.attempts.Stage.TheVariants as stages;
 ghost use Rattle.art_attempt.specs.declared.cases.Case.TheVariants as cases;
-ghost use Rattle.art_gather.specs.Lowering.{ended_at as lowered_at};
-ghost use Rattle.art_gather.specs.Vouching.{ended_at as vouched_at};
-ghost use Rattle.art_gather.specs.declared.lowering.Lowered.TheVariants.{Unchanged as lowered};
-ghost use Rattle.art_gather.specs.declared.vouching.Vouched.TheVariants.{Unchanged as unchanged};
+ghost use Rattle.art_gather.specs.declared.validate.Validate.TheVariants.{Ended as validated};
+ghost use Rattle.art_gather.specs.declared.validate.Validated.TheVariants.{Unchanged as unchanged};
 ghost use Rattle.art_machine.specs.Acting.{Answers as ActionAnswers, steps_in};
 ghost use Rattle.art_machine.specs.declared.actions.Action.{Action as ActionOf};
 ghost use Rattle.art_make.specs.Apply.{brings, ended_at as made_at, fault_of, is_begun};
@@ -27,7 +25,7 @@ use art_make::Apply;
 use art_plan::{
     Lower, needed, plan_drop, plan_insert, plan_merge_leaf, plan_merge_node, plan_shrink,
 };
-use art_step::{EpochSteps, Stamp, UpgradeFault};
+use art_step::{EpochSteps, UpgradeFault};
 
 impl Attempt {
     ghost use Rattle.std.specs.Prelude.{IfSome};
@@ -37,35 +35,37 @@ impl Attempt {
 
     /// All that is written was seen: the change is planned.
     pub(crate) fn plan(&mut self, room: &mut Room)
-        requires { (z : Sizes) × (u : View) × (v : View) × IsRoom z room.old × HasVouched z u self.old room.old v ×
-            (vouched_at self.old.vouching ≡ Some unchanged) }
+        requires { (z : Sizes) × (u : View) × (v : View) × IsRoom z room.old ×
+            IsValidating z u self.old (validated unchanged) room.old v }
         ensures kept { IsSameTry self.old self.new room.old room.new }
         ensures not_anew { ended_at self.new ≢ Some anew }
         ensures not_overlaps { ended_at self.new ≢ Some overlaps }
         ensures free { is_free self.new ≡ true }
-        ensures fits { (z : Sizes) (u v : View) → IsRoom z room.old → HasVouched z u self.old room.old v →
-            vouched_at self.old.vouching ≡ Some unchanged → Fits z u self.new room.new v }
+        ensures fits { (z : Sizes) (u v : View) → IsRoom z room.old →
+            IsValidating z u self.old (validated unchanged) room.old v → Fits z u self.new room.new v }
     {
         match self.case {
             Case::NewLeaf => self.plan_new(room),
             Case::DropLeaf => self.plan_stays(room),
             Case::Shrink(layout) => self.plan_shrinks(room, layout),
             Case::MergeLeaf(other) => self.plan_merges(room, other),
-            Case::MergeNode { .. } | Case::Torn => unreachable!(),
+            Case::MergeNode(lower) => self.plan_lowers(room, lower),
+            // its check has failed
+            Case::Torn => unreachable!(),
         }
     }
 
     /// A leaf comes.
     fn plan_new(&mut self, room: &mut Room)
         requires case { self.old.case ≡ cases.NewLeaf }
-        requires vouched { (z : Sizes) × (u : View) × (v : View) × IsRoom z room.old × HasVouched z u self.old room.old v ×
-            (vouched_at self.old.vouching ≡ Some unchanged) }
+        requires validated { (z : Sizes) × (u : View) × (v : View) × IsRoom z room.old ×
+            IsValidating z u self.old (validated unchanged) room.old v }
         ensures kept { IsSameTry self.old self.new room.old room.new }
         ensures not_anew { ended_at self.new ≢ Some anew }
         ensures not_overlaps { ended_at self.new ≢ Some overlaps }
         ensures free { is_free self.new ≡ true }
-        ensures fits { (z : Sizes) (u v : View) → IsRoom z room.old → HasVouched z u self.old room.old v →
-            vouched_at self.old.vouching ≡ Some unchanged → Fits z u self.new room.new v }
+        ensures fits { (z : Sizes) (u v : View) → IsRoom z room.old →
+            IsValidating z u self.old (validated unchanged) room.old v → Fits z u self.new room.new v }
     {
         let Some(leaf) = room.stock.leaf() else {
             unreachable!();
@@ -86,14 +86,14 @@ impl Attempt {
     /// The leaf goes alone.
     fn plan_stays(&mut self, room: &mut Room)
         requires case { self.old.case ≡ cases.DropLeaf }
-        requires vouched { (z : Sizes) × (u : View) × (v : View) × IsRoom z room.old × HasVouched z u self.old room.old v ×
-            (vouched_at self.old.vouching ≡ Some unchanged) }
+        requires validated { (z : Sizes) × (u : View) × (v : View) × IsRoom z room.old ×
+            IsValidating z u self.old (validated unchanged) room.old v }
         ensures kept { IsSameTry self.old self.new room.old room.new }
         ensures not_anew { ended_at self.new ≢ Some anew }
         ensures not_overlaps { ended_at self.new ≢ Some overlaps }
         ensures free { is_free self.new ≡ true }
-        ensures fits { (z : Sizes) (u v : View) → IsRoom z room.old → HasVouched z u self.old room.old v →
-            vouched_at self.old.vouching ≡ Some unchanged → Fits z u self.new room.new v }
+        ensures fits { (z : Sizes) (u v : View) → IsRoom z room.old →
+            IsValidating z u self.old (validated unchanged) room.old v → Fits z u self.new room.new v }
     {
         let Room {
             gone,
@@ -109,14 +109,14 @@ impl Attempt {
     /// The node gives way to a smaller one.
     fn plan_shrinks(&mut self, room: &mut Room, layout: Layout)
         requires case { self.old.case ≡ cases.Shrink layout }
-        requires vouched { (z : Sizes) × (u : View) × (v : View) × IsRoom z room.old × HasVouched z u self.old room.old v ×
-            (vouched_at self.old.vouching ≡ Some unchanged) }
+        requires validated { (z : Sizes) × (u : View) × (v : View) × IsRoom z room.old ×
+            IsValidating z u self.old (validated unchanged) room.old v }
         ensures kept { IsSameTry self.old self.new room.old room.new }
         ensures not_anew { ended_at self.new ≢ Some anew }
         ensures not_overlaps { ended_at self.new ≢ Some overlaps }
         ensures free { is_free self.new ≡ true }
-        ensures fits { (z : Sizes) (u v : View) → IsRoom z room.old → HasVouched z u self.old room.old v →
-            vouched_at self.old.vouching ≡ Some unchanged → Fits z u self.new room.new v }
+        ensures fits { (z : Sizes) (u v : View) → IsRoom z room.old →
+            IsValidating z u self.old (validated unchanged) room.old v → Fits z u self.new room.new v }
     {
         let made = room.number_for(Some(layout));
         let Room {
@@ -133,14 +133,14 @@ impl Attempt {
     /// The node gives way to its other child, a leaf.
     fn plan_merges(&mut self, room: &mut Room, other: u32)
         requires case { self.old.case ≡ cases.MergeLeaf other }
-        requires vouched { (z : Sizes) × (u : View) × (v : View) × IsRoom z room.old × HasVouched z u self.old room.old v ×
-            (vouched_at self.old.vouching ≡ Some unchanged) }
+        requires validated { (z : Sizes) × (u : View) × (v : View) × IsRoom z room.old ×
+            IsValidating z u self.old (validated unchanged) room.old v }
         ensures kept { IsSameTry self.old self.new room.old room.new }
         ensures not_anew { ended_at self.new ≢ Some anew }
         ensures not_overlaps { ended_at self.new ≢ Some overlaps }
         ensures free { is_free self.new ≡ true }
-        ensures fits { (z : Sizes) (u v : View) → IsRoom z room.old → HasVouched z u self.old room.old v →
-            vouched_at self.old.vouching ≡ Some unchanged → Fits z u self.new room.new v }
+        ensures fits { (z : Sizes) (u v : View) → IsRoom z room.old →
+            IsValidating z u self.old (validated unchanged) room.old v → Fits z u self.new room.new v }
     {
         let Room {
             gone,
@@ -153,21 +153,18 @@ impl Attempt {
         self.begin(room);
     }
 
-    /// The node gives way to its other child, a node that has this stamp.
-    pub(crate) fn plan_lowers(&mut self, room: &mut Room, stamp: Stamp)
-        requires { (z : Sizes) × (u : View) × (v : View) × IsRoom z room.old × HasLower z u self.old room.old v ×
-            (lowered_at self.old.lowering ≡ Some (lowered stamp)) }
+    /// The node gives way to its other child, a node.
+    fn plan_lowers(&mut self, room: &mut Room, child: Lower)
+        requires case { self.old.case ≡ cases.MergeNode child }
+        requires validated { (z : Sizes) × (u : View) × (v : View) × IsRoom z room.old ×
+            IsValidating z u self.old (validated unchanged) room.old v }
         ensures kept { IsSameTry self.old self.new room.old room.new }
         ensures not_anew { ended_at self.new ≢ Some anew }
         ensures not_overlaps { ended_at self.new ≢ Some overlaps }
         ensures free { is_free self.new ≡ true }
-        ensures fits { (z : Sizes) (u v : View) → IsRoom z room.old → HasLower z u self.old room.old v →
-            lowered_at self.old.lowering ≡ Some (lowered stamp) → Fits z u self.new room.new v }
+        ensures fits { (z : Sizes) (u v : View) → IsRoom z room.old →
+            IsValidating z u self.old (validated unchanged) room.old v → Fits z u self.new room.new v }
     {
-        let Case::MergeNode { byte, node } = self.case else {
-            unreachable!();
-        };
-        let child = Lower { stamp, node, byte };
         let Room {
             gone,
             read_set,
@@ -194,7 +191,7 @@ impl Attempt {
         ensures not_anew { ended_at self.new ≢ Some anew }
         ensures not_overlaps { ended_at self.new ≢ Some overlaps }
         ensures free { is_free self.new ≡ true }
-        ensures fits { (z : Sizes) (u v : View) → IsRoom z room.now → EndsWithin z u 22300 room.now v → MayMake z u self.old room.now v →
+        ensures fits { (z : Sizes) (u v : View) → IsRoom z room.now → EndsWithin z u 22500 room.now v → MayMake z u self.old room.now v →
             Fits z u self.new room.now v }
     {
         self.apply = Apply::new(&room.change);

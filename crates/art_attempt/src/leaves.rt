@@ -1,18 +1,18 @@
 //! How an attempt tells what goes with a leaf, by the words of the node that names it.
 ghost use Rattle.std.specs.Prelude.{◌≡◌, ◌≢◌, ℕ, ◌+◌, ◌<◌, ◌≤◌, None, Some, true, false};
-ghost use Rattle.art_attempt.specs.Attempts.{EndsWithin, Fits, HasLower, IsReadingOn, IsRoom, IsSameTry, asks_at, deed_at, ended_at, is_free};
-ghost use Rattle.art_attempt.specs.Attempts.{lower_asks, reading_asks};
+ghost use Rattle.art_attempt.specs.Attempts.{EndsWithin, Fits, IsNaming, IsReadingOn, IsRoom, IsSameTry, asks_at, deed_at, ended_at, is_free};
+ghost use Rattle.art_attempt.specs.Attempts.{naming_asks, reading_asks};
 ghost use Rattle.art_attempt.specs.Cases.{HasLeaf, LeavesOther};
 ghost use Rattle.art_attempt.specs.declared.attempts.Ending.TheVariants.{Restart as anew, Overlaps as overlaps};
 ghost use Rattle.art_attempt.specs.declared.attempts.Job.TheVariants as jobs;
 ghost use Rattle.art_attempt.specs.declared.attempts.Stage.TheVariants as stages;
 ghost use Rattle.art_cell.specs.declared.cells.Link.TheVariants.{Node as node_link};
+ghost use Rattle.art_cell.specs.declared.cells.Node.{Node as NodeOf};
 ghost use Rattle.art_find.specs.Findings.{IsStanding};
-ghost use Rattle.art_gather.specs.Lowering.{ended_at as lowered_at};
-ghost use Rattle.art_gather.specs.Vouching.{KnowsHere};
-ghost use Rattle.art_gather.specs.declared.lowering.Lowered.TheVariants.{Changed as changed_lower};
+ghost use Rattle.art_gather.specs.Naming.{KnowsHere, ended_at as named_at};
+ghost use Rattle.art_gather.specs.declared.naming.Named.TheVariants.{Changed as changed_name};
+ghost use Rattle.art_gather.specs.declared.naming.Naming.{Naming as NamingOf};
 ghost use Rattle.art_machine.specs.Acting.{Answers as ActionAnswers, goes_on, telling};
-ghost use Rattle.art_machine.specs.Turns.{Spends};
 ghost use Rattle.art_machine.specs.declared.actions.Action.{Action as ActionOf};
 ghost use Rattle.art_plan.specs.ChooseRemove.Losses.{loss_at};
 ghost use Rattle.art_plan.specs.ChooseRemove.Others.{NamesChild};
@@ -24,9 +24,9 @@ ghost use Rattle.art_step.specs.declared.views.View.{View};
 use crate::{Attempt, Case, Ending, Room, Stage};
 use art_cell::{Link, Node};
 use art_find::{ReadSet, Rereading, look};
-use art_gather::{Lowered, Lowering};
+use art_gather::{Named, Naming};
 use art_machine::{Action, Answer};
-use art_plan::{Loss, lost, other_child};
+use art_plan::{Loss, Lower, lost, other_child};
 use art_step::EpochSteps;
 
 impl Attempt {
@@ -60,7 +60,7 @@ impl Attempt {
             Fits z u self.new room.new v }
     {
         match self.loss(&room.read_set) {
-            Loss::Leaf => self.vouch(room, Case::DropLeaf),
+            Loss::Leaf => self.validate(room, Case::DropLeaf),
             Loss::Shrinks(layout) => self.supply(room, Case::Shrink(layout)),
             Loss::Merges => self.read_on(room, Rereading::new(room.read_set.node())),
         }
@@ -93,7 +93,7 @@ impl Attempt {
         let mut rereading = rereading;
         room.read_set.reread_node(&mut rereading, answer.found());
         match self.loss(&room.read_set) {
-            Loss::Leaf => self.vouch(room, Case::DropLeaf),
+            Loss::Leaf => self.validate(room, Case::DropLeaf),
             Loss::Shrinks(layout) => self.supply(room, Case::Shrink(layout)),
             Loss::Merges => self.read_on(room, rereading),
         }
@@ -158,17 +158,17 @@ impl Attempt {
             loss_at self.old.position room.now.read_set ≡ losses.Merges → Fits z u self.new room.now v }
     {
         let Some((byte, link)) = other_child(&self.position, &room.read_set, &room.gone) else {
-            self.vouch(room, Case::Torn);
+            self.validate(room, Case::Torn);
             return;
         };
         match link {
-            Link::Leaf(other) => self.vouch(room, Case::MergeLeaf(other)),
-            Link::Node(node) => self.lower(byte, node),
+            Link::Leaf(other) => self.validate(room, Case::MergeLeaf(other)),
+            Link::Node(node) => self.name(byte, node),
         }
     }
 
-    /// The lower node is stamped and read, and all three cells are vouched for.
-    fn lower(&mut self, byte: u8, node: Node)
+    /// That node is stamped, and the node that names it is checked.
+    fn name(&mut self, byte: u8, node: Node)
         ensures job { self.new.job ≡ self.old.job }
         ensures not_anew { ended_at self.new ≢ Some anew }
         ensures not_overlaps { ended_at self.new ≢ Some overlaps }
@@ -179,88 +179,78 @@ impl Attempt {
             NamesChild self.old.position r.read_set (node_link node) →
             LeavesOther z self.old.position r.read_set r.gone byte (node_link node) → Fits z u self.new r v }
     {
-        self.case = Case::MergeNode { byte, node };
-        self.lowering = Lowering::new(node);
-        self.stage = Stage::Lowering;
+        self.stage = Stage::Naming {
+            byte,
+            node,
+            naming: Naming::new(node),
+        };
     }
 
-    /// What comes next where the cells are vouched for, with the lower node.
+    /// What comes next where that node is stamped.
     #[inline(always)]
-    pub(crate) fn lower_next(&self) -> Option<Action>
-        ensures asks { (r : RoomOf) → result ≡ asks_at stages.Lowering self.now r }
-        ensures allowed { (z : Sizes) (u v : View) (r : RoomOf) (d : Deed) → HasLower z u self.now r v →
-            IfSome result (IsAllowed z d r.change v) }
-        ensures going { (z : Sizes) (u v : View) (r : RoomOf) → HasLower z u self.now r v → lowered_at self.now.lowering ≡ None →
-            (a : ActionOf) × (result ≡ Some a) }
+    pub(crate) fn name_next(&self, naming: Naming) -> Option<Action>
+        ensures asks { result ≡ naming_asks self.now naming }
+        ensures allowed { (z : Sizes) (u v : View) (byte : ℕ) (n : NodeOf) (r : RoomOf) (d : Deed) →
+            IsNaming z u self.now byte n naming r v → IfSome result (IsAllowed z d r.change v) }
+        ensures going { named_at naming ≡ None → (a : ActionOf) × (result ≡ Some a) }
     {
-        self.lowering.next(&self.position)
+        naming.next(&self.position)
     }
 
-    /// The lower node was stamped or read, or one of the three cells was.
-    pub(crate) fn lower_told(&mut self, room: &mut Room, answer: Answer)
-        requires stage { self.old.stage ≡ stages.Lowering }
-        requires told { (z : Sizes) × (u : View) × (v : View) × (w : View) × (asked : ActionOf) × IsRoom z room.old ×
-            HasLower z u self.old room.old v × (lower_asks self.old ≡ Some asked) ×
+    /// The node below was stamped, or the one that names it was checked.
+    pub(crate) fn name_told(
+        &mut self,
+        room: &mut Room,
+        byte: u8,
+        node: Node,
+        naming: Naming,
+        answer: Answer,
+    )
+        requires { (z : Sizes) × (u : View) × (v : View) × (w : View) × (asked : ActionOf) × IsRoom z room.old ×
+            IsNaming z u self.old byte node naming room.old v × (naming_asks self.old naming ≡ Some asked) ×
             ActionAnswers z (telling (deed_at self.old room.old)) asked answer v w }
         ensures kept { IsSameTry self.old self.new room.old room.new }
         ensures anew { ended_at self.new ≡ Some anew → goes_on answer ≡ false }
         ensures not_overlaps { ended_at self.new ≢ Some overlaps }
         ensures free { is_free self.new ≡ true }
-        ensures fits { (z : Sizes) (u v w : View) (asked : ActionOf) → IsRoom z room.old → HasLower z u self.old room.old v →
-            lower_asks self.old ≡ Some asked → ActionAnswers z (telling (deed_at self.old room.old)) asked answer v w →
-            Fits z u self.new room.new w }
+        ensures fits { (z : Sizes) (u v w : View) (asked : ActionOf) → IsRoom z room.old →
+            IsNaming z u self.old byte node naming room.old v → naming_asks self.old naming ≡ Some asked →
+            ActionAnswers z (telling (deed_at self.old room.old)) asked answer v w → Fits z u self.new room.new w }
     {
-        let Room {
-            read_set,
-            lower,
-            ..
-        } = room;
-        self.lowering.told(&self.position, read_set, lower, answer);
-        self.lower_on(room);
+        let mut naming = naming;
+        naming.told(&mut room.lower, answer);
+        self.name_on(room, byte, node, naming);
     }
 
-    /// Reads and checks the three cells, as long as more than one turn is left.
-    pub(crate) fn lower_all<S: EpochSteps>(
-        &mut self,
-        steps: &mut S,
-        room: &mut Room,
-        left: &mut u32,
-    )
-        requires stage { self.old.stage ≡ stages.Lowering }
-        requires turn { 0 < left.old }
-        requires fits { (u : View) × Fits (S.sizes steps.old) u self.old room.old (S.view steps.old) }
-        ensures only { S.only steps.old steps.new }
-        ensures kept { IsSameTry self.old self.new room.old room.new }
-        ensures free { is_free self.new ≡ true }
+    /// It goes on; or the node below is known by its stamp, and the cells are validated; or a cell was changed.
+    fn name_on(&mut self, room: &Room, byte: u8, node: Node, naming: Naming)
+        ensures job { self.new.job ≡ self.old.job }
+        ensures anew { ended_at self.new ≡ Some anew → named_at naming ≡ Some changed_name }
         ensures not_overlaps { ended_at self.new ≢ Some overlaps }
-        ensures turns { Spends (S.view steps.old) (S.view steps.new) left.old left.new }
-        ensures fits { (u : View) → Fits (S.sizes steps.old) u self.old room.old (S.view steps.old) →
-            Fits (S.sizes steps.old) u self.new room.new (S.view steps.new) }
+        ensures free { is_free self.new ≡ true }
+        ensures fits { (z : Sizes) (u v : View) → IsRoom z room.now → IsNaming z u self.old byte node naming room.now v →
+            Fits z u self.new room.now v }
     {
-        let Room {
-            read_set,
-            lower,
-            ..
-        } = room;
-        self.lowering
-            .run(steps, &self.position, read_set, lower, left);
-        self.lower_on(room);
+        match naming.ended() {
+            None => self.stage = Stage::Naming { byte, node, naming },
+            Some(named) => self.named(room, byte, node, named),
+        }
     }
 
-    /// It goes on; or all that is written was seen, and the change is planned; or a cell was changed.
-    fn lower_on(&mut self, room: &mut Room)
-        requires stage { self.old.stage ≡ stages.Lowering }
-        requires lower { (z : Sizes) × (u : View) × (v : View) × IsRoom z room.old × HasLower z u self.old room.old v }
-        ensures kept { IsSameTry self.old self.new room.old room.new }
-        ensures anew { ended_at self.new ≡ Some anew → lowered_at self.old.lowering ≡ Some changed_lower }
+    /// The naming has ended so: the cells are validated, with the node below, or a cell was changed.
+    fn named(&mut self, room: &Room, byte: u8, node: Node, named: Named)
+        ensures job { self.new.job ≡ self.old.job }
+        ensures anew { ended_at self.new ≡ Some anew → named ≡ changed_name }
         ensures not_overlaps { ended_at self.new ≢ Some overlaps }
         ensures free { is_free self.new ≡ true }
-        ensures fits { (z : Sizes) (u v : View) → IsRoom z room.old → HasLower z u self.old room.old v → Fits z u self.new room.new v }
+        ensures fits { (z : Sizes) (u v : View) (s : NamingOf) → IsRoom z room.now → IsNaming z u self.old byte node s room.now v →
+            named_at s ≡ Some named → Fits z u self.new room.now v }
     {
-        match self.lowering.ended() {
-            None => {}
-            Some(Lowered::Changed) => self.stage = Stage::Ended(Ending::Restart),
-            Some(Lowered::Unchanged(stamp)) => self.plan_lowers(room, stamp),
+        match named {
+            Named::Unchanged(stamp) => {
+                self.validate(room, Case::MergeNode(Lower { stamp, node, byte }))
+            }
+            Named::Changed => self.stage = Stage::Ended(Ending::Restart),
         }
     }
 }

@@ -10,14 +10,14 @@
 //! # The way
 //!
 //! ```text
-//! Finding ──► the check of the place ─┬─ a leaf may come ──────────────► Reserve ─┬──────────► Vouching ─┬──► plan ──► Apply
-//!    │               │                │                                     │ Full │               │       │             │
-//!    │               │                └─ the leaf is there (`lost`)                │               │       │             │
-//!    │               │                      │ the leaf alone ──────────────────────┼──────────────►│       │             │
-//!    │               │                      │ a smaller node would do ──► Reserve ─┴──────────────►│       │             │
-//!    │               │                      │ the node too ──► Reading ─┬─ other child: a leaf ───►│       │             │
-//!    │               │                                                  └─ a node ───────────► Lowering ───┘             │
-//!    └── Restart ◄───┴──────────────────────────────────────────────────────────────────────────────┴────────────────────┘
+//! Finding ──► the check of the place ─┬─ a leaf may come ──────────► Reserve ─┬────────────► Validate ──► plan ──► Apply
+//!    │               │                │                                 │ Full │               │                     │
+//!    │               │                └─ the leaf is there (`lost`)            │               │                     │
+//!    │               │                      │ the leaf alone ──────────────────┼──────────────►│                     │
+//!    │               │                      │ a smaller node would do ─► Reserve ─────────────►│                     │
+//!    │               │                      │ the node too ─► Reading ─┬─ other child: a leaf ►│                     │
+//!    │               │                                                 └─ a node ─► Naming ───►│                     │
+//!    └── Restart ◄───┴─────────────────────────────────────────────────────────────────────────┴─────────────────────┘
 //! ```
 //!
 //! An insert goes the upper way, a removal the lower one; what differs between them is in `Job` and in `Case`, and nowhere else.

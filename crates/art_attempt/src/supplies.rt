@@ -1,15 +1,15 @@
-//! How an attempt brings numbers into the hand, and vouches for the cells that it writes.
+//! How an attempt brings numbers into the hand, and validates the cells that it writes.
 ghost use Rattle.std.specs.Prelude.{◌≡◌, ◌≢◌, ℕ, ◌+◌, ◌<◌, ◌≤◌, length, None, Some, true, false};
-ghost use Rattle.art_attempt.specs.Attempts.{EndsWithin, Fits, HasSupplies, HasVouched, IsKnown, IsRoom, IsSameTry, WantsNumbers, asks_at, deed_at};
-ghost use Rattle.art_attempt.specs.Attempts.{ended_at, is_free, supply_asks, vouching_asks};
-ghost use Rattle.art_attempt.specs.Cases.{IsCaseOf};
+ghost use Rattle.art_attempt.specs.Attempts.{EndsWithin, Fits, HasSupplies, IsKnown, IsRoom, IsSameTry, IsValidating, WantsNumbers, asks_at, deed_at};
+ghost use Rattle.art_attempt.specs.Attempts.{ended_at, is_free, supply_asks, validate_asks};
+ghost use Rattle.art_attempt.specs.Cases.{IsCaseOf, cells_of};
 ghost use Rattle.art_attempt.specs.declared.attempts.Ending.TheVariants.{Restart as anew, Overlaps as overlaps};
 ghost use Rattle.art_attempt.specs.declared.attempts.Stage.TheVariants as stages;
 ghost use Rattle.art_find.specs.Findings.{IsStanding};
 ghost use Rattle.art_gather.specs.Reserve.{ended_at as reserved_at};
-ghost use Rattle.art_gather.specs.Vouching.{ended_at as vouched_at};
+ghost use Rattle.art_gather.specs.Validate.{BelowFits, ended_at as validated_at};
 ghost use Rattle.art_gather.specs.declared.reserve.Reserved.TheVariants.{Full as full};
-ghost use Rattle.art_gather.specs.declared.vouching.Vouched.TheVariants.{Changed as changed_cell};
+ghost use Rattle.art_gather.specs.declared.validate.Validated.TheVariants.{Changed as changed_cell};
 ghost use Rattle.art_machine.specs.Acting.{Answers as ActionAnswers, goes_on, telling};
 ghost use Rattle.art_machine.specs.Turns.{Spends};
 ghost use Rattle.art_machine.specs.declared.actions.Action.{Action as ActionOf};
@@ -18,7 +18,7 @@ ghost use Rattle.art_step.specs.declared.views.View.{View};
 
 use crate::{Attempt, Case, Ending, Job, Room, Stage};
 use art_cell::Pool;
-use art_gather::{Reserve, Reserved, Vouched, Vouching};
+use art_gather::{Reserve, Reserved, Validate, Validated};
 use art_machine::{Action, Answer};
 use art_step::EpochSteps;
 
@@ -102,7 +102,7 @@ impl Attempt {
         self.supply_on(room);
     }
 
-    /// It goes on; or all is in hand, and the cells are vouched for; or a pool gave no number.
+    /// It goes on; or all is in hand, and the cells are validated; or a pool gave no number.
     #[inline(always)]
     fn supply_on(&mut self, room: &Room)
         ensures job { self.new.job ≡ self.old.job }
@@ -113,7 +113,7 @@ impl Attempt {
     {
         match self.reserve.ended() {
             None => self.stage = Stage::Reserve,
-            Some(Reserved::Ready) => self.vouch(room, self.case),
+            Some(Reserved::Ready) => self.validate(room, self.case),
             Some(Reserved::Full(pool)) => self.lack(room, pool),
         }
     }
@@ -129,97 +129,110 @@ impl Attempt {
     {
         match self.job {
             Job::Insert => self.stage = Stage::Ended(Ending::Full(pool)),
-            Job::Remove => self.vouch(room, Case::DropLeaf),
+            Job::Remove => self.validate(room, Case::DropLeaf),
         }
     }
 
-    /// What is changed is known: the cells that are written are vouched for.
-    pub(crate) fn vouch(&mut self, room: &Room, case: Case)
+    /// What is changed is known: the cells that are written are validated.
+    pub(crate) fn validate(&mut self, room: &Room, case: Case)
         ensures job { self.new.job ≡ self.old.job }
         ensures not_anew { ended_at self.new ≢ Some anew }
         ensures not_overlaps { ended_at self.new ≢ Some overlaps }
         ensures free { is_free self.new ≡ true }
-        ensures fits { (z : Sizes) (u v : View) → IsRoom z room.now → EndsWithin z u 21700 room.now v → IsCaseOf self.old.job case →
-            IsStanding z room.now.row.key.items self.old.position room.now.read_set v →
-            IsKnown z u case self.old.position room.now v → Fits z u self.new room.now v }
+        ensures fits { (z : Sizes) (u v : View) → IsRoom z room.now → EndsWithin z u 21702 room.now v → IsCaseOf self.old.job case →
+            IsStanding z room.now.row.key.items self.old.position room.now.read_set v → IsKnown z u case self.old.position room.now v →
+            BelowFits z room.now.row.key.items self.old.position room.now.read_set (cells_of case self.old.position.verdict).lower
+            room.now.lower v v → Fits z u self.new room.now v }
     {
         self.case = case;
-        let both = case.writes_above(&self.position.verdict);
-        self.vouching = Vouching::new(&self.position, both, &room.read_set);
-        self.stage = Stage::Vouching;
+        let cells = case.cells(&self.position.verdict);
+        let validate = Validate::new(&self.position, &cells, &room.read_set, &room.lower);
+        self.stage = Stage::Validate(validate);
     }
 
-    /// What comes next where the cells are vouched for.
+    /// What comes next where the cells are validated.
     #[inline(always)]
-    pub(crate) fn vouch_next(&self) -> Option<Action>
-        ensures asks { (r : RoomOf) → result ≡ asks_at stages.Vouching self.now r }
-        ensures allowed { (z : Sizes) (u v : View) (r : RoomOf) (d : Deed) → HasVouched z u self.now r v →
+    pub(crate) fn validate_next(&self, validate: Validate) -> Option<Action>
+        ensures asks { result ≡ validate_asks self.now validate }
+        ensures allowed { (z : Sizes) (u v : View) (r : RoomOf) (d : Deed) → IsValidating z u self.now validate r v →
             IfSome result (IsAllowed z d r.change v) }
-        ensures going { (z : Sizes) (u v : View) (r : RoomOf) → HasVouched z u self.now r v → vouched_at self.now.vouching ≡ None →
-            (a : ActionOf) × (result ≡ Some a) }
+        ensures going { (z : Sizes) (u v : View) (r : RoomOf) → IsValidating z u self.now validate r v →
+            validated_at validate ≡ None → (a : ActionOf) × (result ≡ Some a) }
     {
-        self.vouching.next(&self.position)
+        let cells = self.case.cells(&self.position.verdict);
+        validate.next(&self.position, &cells)
     }
 
     /// A word was read, or a cell was checked.
-    pub(crate) fn vouch_told(&mut self, room: &mut Room, answer: Answer)
-        requires stage { self.old.stage ≡ stages.Vouching }
-        requires told { (z : Sizes) × (u : View) × (v : View) × (w : View) × (asked : ActionOf) × IsRoom z room.old ×
-            HasVouched z u self.old room.old v × (vouching_asks self.old ≡ Some asked) ×
+    pub(crate) fn validate_told(&mut self, room: &mut Room, validate: Validate, answer: Answer)
+        requires { (z : Sizes) × (u : View) × (v : View) × (w : View) × (asked : ActionOf) × IsRoom z room.old ×
+            IsValidating z u self.old validate room.old v × (validate_asks self.old validate ≡ Some asked) ×
             ActionAnswers z (telling (deed_at self.old room.old)) asked answer v w }
         ensures kept { IsSameTry self.old self.new room.old room.new }
         ensures anew { ended_at self.new ≡ Some anew → goes_on answer ≡ false }
         ensures not_overlaps { ended_at self.new ≢ Some overlaps }
         ensures free { is_free self.new ≡ true }
-        ensures fits { (z : Sizes) (u v w : View) (asked : ActionOf) → IsRoom z room.old → HasVouched z u self.old room.old v →
-            vouching_asks self.old ≡ Some asked → ActionAnswers z (telling (deed_at self.old room.old)) asked answer v w →
-            Fits z u self.new room.new w }
+        ensures fits { (z : Sizes) (u v w : View) (asked : ActionOf) → IsRoom z room.old →
+            IsValidating z u self.old validate room.old v → validate_asks self.old validate ≡ Some asked →
+            ActionAnswers z (telling (deed_at self.old room.old)) asked answer v w → Fits z u self.new room.new w }
     {
-        let both = self.case.writes_above(&self.position.verdict);
-        self.vouching
-            .told(&self.position, both, &mut room.read_set, answer);
-        self.vouch_on(room);
+        let cells = self.case.cells(&self.position.verdict);
+        let Room {
+            read_set,
+            lower,
+            ..
+        } = room;
+        let mut validate = validate;
+        validate.told(&self.position, &cells, read_set, lower, answer);
+        self.validate_on(room, validate);
     }
 
     /// Reads and checks the cells, as long as more than one turn is left.
-    pub(crate) fn vouch_all<S: EpochSteps>(
+    pub(crate) fn validate_all<S: EpochSteps>(
         &mut self,
         steps: &mut S,
         room: &mut Room,
+        validate: Validate,
         left: &mut u32,
     )
-        requires stage { self.old.stage ≡ stages.Vouching }
         requires turn { 0 < left.old }
-        requires fits { (u : View) × Fits (S.sizes steps.old) u self.old room.old (S.view steps.old) }
+        requires fits { (u : View) × IsRoom (S.sizes steps.old) room.old ×
+            IsValidating (S.sizes steps.old) u self.old validate room.old (S.view steps.old) }
         ensures only { S.only steps.old steps.new }
         ensures kept { IsSameTry self.old self.new room.old room.new }
         ensures free { is_free self.new ≡ true }
         ensures not_overlaps { ended_at self.new ≢ Some overlaps }
         ensures turns { Spends (S.view steps.old) (S.view steps.new) left.old left.new }
-        ensures fits { (u : View) → Fits (S.sizes steps.old) u self.old room.old (S.view steps.old) →
+        ensures fits { (u : View) → IsRoom (S.sizes steps.old) room.old →
+            IsValidating (S.sizes steps.old) u self.old validate room.old (S.view steps.old) →
             Fits (S.sizes steps.old) u self.new room.new (S.view steps.new) }
     {
-        let both = self.case.writes_above(&self.position.verdict);
-        self.vouching
-            .run(steps, &self.position, both, &mut room.read_set, left);
-        self.vouch_on(room);
+        let cells = self.case.cells(&self.position.verdict);
+        let Room {
+            read_set,
+            lower,
+            ..
+        } = room;
+        let mut validate = validate;
+        validate.run(steps, &self.position, &cells, read_set, lower, left);
+        self.validate_on(room, validate);
     }
 
     /// It goes on; or all that is written was seen, and the change is planned; or a cell was changed.
     #[inline(always)]
-    fn vouch_on(&mut self, room: &mut Room)
-        requires stage { self.old.stage ≡ stages.Vouching }
-        requires vouched { (z : Sizes) × (u : View) × (v : View) × IsRoom z room.old × HasVouched z u self.old room.old v }
+    fn validate_on(&mut self, room: &mut Room, validate: Validate)
+        requires { (z : Sizes) × (u : View) × (v : View) × IsRoom z room.old × IsValidating z u self.old validate room.old v }
         ensures kept { IsSameTry self.old self.new room.old room.new }
-        ensures anew { ended_at self.new ≡ Some anew → vouched_at self.old.vouching ≡ Some changed_cell }
+        ensures anew { ended_at self.new ≡ Some anew → validated_at validate ≡ Some changed_cell }
         ensures not_overlaps { ended_at self.new ≢ Some overlaps }
         ensures free { is_free self.new ≡ true }
-        ensures fits { (z : Sizes) (u v : View) → IsRoom z room.old → HasVouched z u self.old room.old v → Fits z u self.new room.new v }
+        ensures fits { (z : Sizes) (u v : View) → IsRoom z room.old → IsValidating z u self.old validate room.old v →
+            Fits z u self.new room.new v }
     {
-        match self.vouching.ended() {
-            None => {}
-            Some(Vouched::Changed) => self.stage = Stage::Ended(Ending::Restart),
-            Some(Vouched::Unchanged) => self.plan(room),
+        match validate.ended() {
+            None => self.stage = Stage::Validate(validate),
+            Some(Validated::Changed) => self.stage = Stage::Ended(Ending::Restart),
+            Some(Validated::Unchanged) => self.plan(room),
         }
     }
 }

@@ -39,8 +39,8 @@ ended_stage (stage.Ended a) e is = ap stage.Ended (same_Some {A = Ending} a e is
 ended_stage stage.Finding e is = cc
 ended_stage stage.Reserve e is = cc
 ended_stage (stage.Reading q) e is = cc
-ended_stage stage.Vouching e is = cc
-ended_stage stage.Lowering e is = cc
+ended_stage (stage.Validate s) e is = cc
+ended_stage (stage.Naming byte n s) e is = cc
 ended_stage stage.Apply e is = cc
 
 -- nothing was told

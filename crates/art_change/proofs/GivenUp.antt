@@ -103,8 +103,8 @@ module _ (z : Sizes) (u : View) (m : Attempt) (r : Room) (v : View) where
   holds_at attempt.Finding fits on free = cc
   holds_at attempt.Reserve fits on free = cc
   holds_at (attempt.Reading q) fits on free = cc
-  holds_at attempt.Vouching fits on free = cc
-  holds_at attempt.Lowering fits on free = cc
+  holds_at (attempt.Validate s) fits on free = cc
+  holds_at (attempt.Naming byte n s) fits on free = cc
   holds_at (attempt.Ended e) fits on free = cc
 
   pub held_in : TryFits z u m r v → try_ended m ≡ None → is_free m ≡ false → v.held ≢ []

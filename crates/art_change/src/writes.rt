@@ -53,7 +53,7 @@ pub enum Outcome {
 }
 
 /// How many stages may follow one another with no step of the machine in between: the opening, then of an attempt the place that is sought,
-/// numbers that are brought into the hand, cells that are vouched for, and the change that is made, then the close.
+/// numbers that are brought into the hand, cells that are validated, and the change that is made, then the close.
 const STAGES: u32 = 6;
 
 /// Where a write stands between two of its steps.

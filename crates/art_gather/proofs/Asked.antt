@@ -14,21 +14,21 @@ use Rattle.art_epoch.specs.declared.taking.Search.TheVariants.{Looking, Clearing
 use Rattle.art_epoch.specs.declared.taking.Taking.{Taking}
 use Rattle.art_find.specs.Findings.{IsToSettle}
 use Rattle.art_find.specs.Rereadings.{reads_next}
-use Rattle.art_find.specs.declared.findings.Above.{Above as CellAbove}
 use Rattle.art_find.specs.declared.findings.Position.{Position}
 use Rattle.art_find.specs.declared.rereadings.Rereading.{Rereading}
 use Rattle.art_frame.specs.declared.stocks.Stock.{Stock}
-use Rattle.art_gather.specs.Lowering as lowering
+use Rattle.art_gather.specs.Naming as naming
 use Rattle.art_gather.specs.Reserve as reserve
 use Rattle.art_gather.specs.Reserve.{StayFound, leaf_asked}
-use Rattle.art_gather.specs.Vouching as vouching
-use Rattle.art_gather.specs.Vouching.{above_checks, above_reads}
-use Rattle.art_gather.specs.declared.lowering.Lowering.{Lowering}
-use Rattle.art_gather.specs.declared.lowering.Lowering.TheVariants as lower
+use Rattle.art_gather.specs.Validate as validate
+use Rattle.art_gather.specs.Validate.{checks_of, reads_by}
+use Rattle.art_gather.specs.declared.naming.Naming.{Naming}
+use Rattle.art_gather.specs.declared.naming.Naming.TheVariants as names
 use Rattle.art_gather.specs.declared.reserve.Reserve.{Reserve}
 use Rattle.art_gather.specs.declared.reserve.Reserve.TheVariants as supply
-use Rattle.art_gather.specs.declared.vouching.Vouching.{Vouching}
-use Rattle.art_gather.specs.declared.vouching.Vouching.TheVariants as vouch
+use Rattle.art_gather.specs.declared.validate.Cells.{Cells}
+use Rattle.art_gather.specs.declared.validate.Validate.{Validate}
+use Rattle.art_gather.specs.declared.validate.Validate.TheVariants as checks
 use Rattle.art_machine.proofs.Counting.{look_counts, steps_made}
 use Rattle.art_machine.specs.Acting.{Answers, IsAllowed, IsLook, steps_in, telling}
 use Rattle.art_machine.specs.declared.actions.Action.{Action}
@@ -83,28 +83,21 @@ not_none (Some x) differs = (x, refl)
 reads_cell : (x : Stamp) (r : Rereading) (a : Action) → reads_next x r ≡ Some a → IsCellLook a
 reads_cell x r a is = subst IsCellLook (if_some (nat_lt r.place (size_of x.cell)) (Read x r.place) a is) tt
 
-above_look : (r : Rereading) (o : Option CellAbove) (a : Action) → option_and_then (above_reads r) o ≡ Some a → IsCellLook a
-above_look r o a is = let k = then_some (above_reads r) o a is in reads_cell k.0.stamp r a k.2
+read_looks : (r : Rereading) (o : Option Stamp) (a : Action) → option_and_then (reads_by r) o ≡ Some a → IsCellLook a
+read_looks r o a is = let k = then_some (reads_by r) o a is in reads_cell k.0 r a k.2
 
-above_check : (o : Option CellAbove) (a : Action) → option_map above_checks o ≡ Some a → IsCellLook a
-above_check o a is = let k = map_some above_checks o a is in subst IsCellLook k.2 tt
+check_looks : (o : Option Stamp) (a : Action) → option_map checks_of o ≡ Some a → IsCellLook a
+check_looks o a is = let k = map_some checks_of o a is in subst IsCellLook k.2 tt
 
-pub vouching_looks : (t : Position) (m : Vouching) (a : Action) → vouching.asks t m ≡ Some a → IsCellLook a
-vouching_looks t (vouch.Above r) a is = above_look r t.above a is
-vouching_looks t (vouch.Here r) a is = reads_cell t.stamp r a is
-vouching_looks t vouch.CheckAbove a is = above_check t.above a is
-vouching_looks t vouch.CheckHere a is = subst IsCellLook (same_Some (Check t.stamp) a is) tt
-vouching_looks t (vouch.Ended r) a is = absurd (cc)
+pub validate_looks : (t : Position) (o : Cells) (m : Validate) (a : Action) → validate.asks t o m ≡ Some a → IsCellLook a
+validate_looks t o (checks.Read role r) a is = read_looks r (validate.stamp_of t o role) a is
+validate_looks t o (checks.Check role) a is = check_looks (validate.stamp_of t o role) a is
+validate_looks t o (checks.Ended e) a is = absurd (cc)
 
-pub lowering_looks : (t : Position) (m : Lowering) (a : Action) → lowering.asks t m ≡ Some a → IsCellLook a
-lowering_looks t (lower.Beginning n) a is = subst IsCellLook (same_Some (Begin (cell.Node n)) a is) tt
-lowering_looks t (lower.Named x) a is = subst IsCellLook (same_Some (Check t.stamp) a is) tt
-lowering_looks t (lower.Above x r) a is = above_look r t.above a is
-lowering_looks t (lower.Lower x r) a is = reads_cell x r a is
-lowering_looks t (lower.CheckAbove x) a is = above_check t.above a is
-lowering_looks t (lower.CheckHere x) a is = subst IsCellLook (same_Some (Check t.stamp) a is) tt
-lowering_looks t (lower.CheckLower x) a is = subst IsCellLook (same_Some (Check x) a is) tt
-lowering_looks t (lower.Ended r) a is = absurd (cc)
+pub naming_looks : (t : Position) (m : Naming) (a : Action) → naming.asks t m ≡ Some a → IsCellLook a
+naming_looks t (names.Begin n) a is = subst IsCellLook (same_Some (Begin (cell.Node n)) a is) tt
+naming_looks t (names.Check x) a is = subst IsCellLook (same_Some (Check t.stamp) a is) tt
+naming_looks t (names.Ended e) a is = absurd (cc)
 
 taking_supplies : (t : Taking) (a : Action) → taking.asks t ≡ Some a → IsSupply a
 taking_supplies t a is = by_search t.search is
@@ -133,11 +126,11 @@ look_looks a is = absurd is
 pub reads_look : (x : Stamp) (r : Rereading) (a : Action) → reads_next x r ≡ Some a → IsLook a
 reads_look x r a is = look_looks a (reads_cell x r a is)
 
-pub vouch_asks_look : (t : Position) (m : Vouching) (a : Action) → vouching.asks t m ≡ Some a → IsLook a
-vouch_asks_look t m a is = look_looks a (vouching_looks t m a is)
+pub validate_asks_look : (t : Position) (o : Cells) (m : Validate) (a : Action) → validate.asks t o m ≡ Some a → IsLook a
+validate_asks_look t o m a is = look_looks a (validate_looks t o m a is)
 
-pub lower_asks_look : (t : Position) (m : Lowering) (a : Action) → lowering.asks t m ≡ Some a → IsLook a
-lower_asks_look t m a is = look_looks a (lowering_looks t m a is)
+pub naming_asks_look : (t : Position) (m : Naming) (a : Action) → naming.asks t m ≡ Some a → IsLook a
+naming_asks_look t m a is = look_looks a (naming_looks t m a is)
 
 -- does no deed, so any is as good
 pub some_deed : Deed

@@ -1,9 +1,9 @@
 pub mod Asked
+mod LowerBegins
 pub mod LowerNames
-mod LowerOthers
 pub mod LowerSeen
-mod Lowers
 mod Rereads
 mod Spending
+pub mod Standing
 pub mod Supplies
-pub mod Vouches
+pub mod Validates

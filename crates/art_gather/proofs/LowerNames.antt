@@ -18,7 +18,7 @@ use Rattle.art_plan.proofs.SeenBodies.{seen_body, seen_child, seen_prefix, stand
 use Rattle.art_plan.proofs.WholeCells.{IsWhole, above_is, has_above, node_whole}
 use Rattle.art_plan.specs.ChooseInsert.Bodies.{HasWords, IsFilled}
 use Rattle.art_find.proofs.Stages.{noted_names}
-use Rattle.art_gather.specs.Lowering.{HasLower, IsLed, IsLowering, IsParent, IsThird, WouldLead}
+use Rattle.art_gather.specs.Naming.{HasLower, IsLed, StillNames, IsParent, IsThird, WouldLead}
 use Rattle.art_find.proofs.Keeping.{path_passed}
 use Rattle.art_find.specs.ReadSets.{node_of}
 use Rattle.art_find.specs.Kept.{HasPath}
@@ -75,15 +75,15 @@ longer_by p r byte = omega (arith, length-append (p ++ r) (byte ∷ []), length-
 
 -- ---- the lower node
 
-module _ (z : Sizes) (k : List ℕ) (t : Position) (n : Node) (read_set : ReadSet) (u v : View) (lowering : IsLowering z k t n read_set u v) where
+module _ (z : Sizes) (k : List ℕ) (t : Position) (n : Node) (read_set : ReadSet) (u v : View) (names : StillNames z k t n read_set u v) where
   abbrev here : Node
-  here = lowering.here
+  here = names.here
 
   abbrev on : t.stamp.cell ≡ cell.Node here
-  on = lowering.is
+  on = names.is
 
   whole : IsWhole z v t.stamp (node_of read_set)
-  whole = node_whole z k t read_set v lowering.vouching.standing lowering.whole
+  whole = node_whole z k t read_set v names.stands.standing names.whole
 
   filled : (body : Body) → HasWords here (node_of read_set) body → IsFilled t.stamp.cell (node_of read_set) body
   filled body has m at =
@@ -94,17 +94,17 @@ module _ (z : Sizes) (k : List ℕ) (t : Position) (n : Node) (read_set : ReadSe
   -- the pass may begin it
   pub may_begin : IsNamed v (cell.Node n) × HasVersion z (cell.Node n)
   may_begin =
-      let named = named_there z v t read_set (node n) whole.words lowering.named in
+      let named = named_there z v t read_set (node n) whole.words names.named in
       (noted_names v t.stamp (node n) named.0, named.1)
 
   pub has_over : (a : Above) × (t.above ≡ Some a)
-  has_over = has_above z k t read_set v lowering.vouching.standing here on
+  has_over = has_above z k t read_set v names.stands.standing here on
 
   -- the word that names it is its child word
-  word_is : (child_word (node n) ≡ lowering.named.word) × (link_of (child_word (node n)) ≡ Some (node n))
+  word_is : (child_word (node n) ≡ names.named.word) × (link_of (child_word (node n)) ≡ Some (node n))
   word_is =
-      let word = (link_exact lowering.named.word (node n) lowering.named.names).0 in
-      (word, ap link_of word ∙ lowering.named.names)
+      let word = (link_exact names.named.word (node n) names.named.names).0 in
+      (word, ap link_of word ∙ names.named.names)
 
   -- ---- in a tree that has all that was noted of the node
 
@@ -115,7 +115,7 @@ module _ (z : Sizes) (k : List ℕ) (t : Position) (n : Node) (read_set : ReadSe
     -- the word is that of a byte's child
     child_byte : (byte : ℕ) × (byte < 256) × (child_of here.layout (s (cell.Node here)) byte ≡ Some (child_word (node n)))
     child_byte =
-        let name = lowering.named in
+        let name = names.named in
         let word : s (cell.Node here) name.place ≡ name.word =
         subst (λ (c : Cell). s c name.place ≡ name.word) on (holds (note_of t.stamp (Word name.place name.word)) (whole.words.each name.place name.word name.read).noted refl) in
         let at : IsPlaceOf here.layout name.place = subst (λ (c : Cell). IsChildPlace c name.place) on name.child in
@@ -151,7 +151,7 @@ module _ (z : Sizes) (k : List ℕ) (t : Position) (n : Node) (read_set : ReadSe
 
     child_shows : Shows z v t.stamp (λ s. HasChild s t.stamp.cell (node n) led_by)
     child_shows s shape holds =
-        let at : StandsAt (heap_of s) (node here) (take a.depth k) = led_there z k t read_set here on a is v s lowering.vouching.standing holds in
+        let at : StandsAt (heap_of s) (node here) (take a.depth k) = led_there z k t read_set here on a is v s names.stands.standing holds in
         let word = sym (seen_child z v t.stamp (node_of read_set) whole s shape holds here on body (filled body has) byte lower.low) ∙ lower.there in
         let child : (heap_of s).child here byte ≡ Some (node n) = child_on s here byte (Some (child_word (node n))) lower.low word ∙ word_is.1 in
         let path : led_by ≡ path_past (heap_of s) here (take a.depth k) byte =
@@ -208,7 +208,7 @@ module _ (z : Sizes) (k : List ℕ) (t : Position) (n : Node) (read_set : ReadSe
       let led = leads a is equal parent.here a body parent.byte parent.is is has (parent.has body has) in
       let path : List ℕ = take a.depth k ++ prefix_of (word_of body) ++ parent.byte ∷ [] in
       not_below z s.0 a.stamp.cell n here (take a.depth k) path s.1
-      ((above_is z k t read_set v lowering.vouching.standing here on a is).shows s.0 s.1 s.2)
+      ((above_is z k t read_set v names.stands.standing here on a is).shows s.0 s.1 s.2)
       equal
       (s.2 (note_of a.stamp (Starts path)) led refl)
       (longer_by (take a.depth k) (prefix_of (word_of body)) parent.byte)

@@ -1,5 +1,5 @@
 -- the crates below, for those above to name
 pub use Rattle.art_plan.specs as ArtPlan
-pub mod Lowering
+pub mod Naming
 pub mod Reserve
-pub mod Vouching
+pub mod Validate

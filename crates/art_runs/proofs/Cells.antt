@@ -19,24 +19,24 @@ use Rattle.art_machine.specs.declared.actions.Action.{Action}
 use Rattle.art_machine.specs.declared.actions.Action.TheVariants.{Begin, Read}
 use Rattle.art_call.specs.ArtFind.declared.descents.Stage.{Stage}
 use Rattle.art_call.specs.ArtFind.declared.descents.Stage.TheVariants as descent
-use Rattle.art_call.specs.ArtGather.Vouching as vouching
-use Rattle.art_call.specs.ArtGather.Vouching.{above_checks, above_reads}
-use Rattle.art_call.specs.ArtGather.declared.vouching.Vouching.{Vouching}
-use Rattle.art_call.specs.ArtGather.declared.vouching.Vouching.TheVariants as vouches
+use Rattle.art_call.specs.ArtGather.Naming as naming
+use Rattle.art_call.specs.ArtGather.Naming.{StillNames}
+use Rattle.art_call.specs.ArtGather.Validate as validate
+use Rattle.art_call.specs.ArtGather.Validate.{checks_of, reads_by}
+use Rattle.art_call.specs.ArtGather.declared.naming.Naming.{Naming}
+use Rattle.art_call.specs.ArtGather.declared.naming.Naming.TheVariants as names
+use Rattle.art_call.specs.ArtGather.declared.validate.Cells.{Cells as CellsOf}
+use Rattle.art_call.specs.ArtGather.declared.validate.Validate.{Validate}
+use Rattle.art_call.specs.ArtGather.declared.validate.Validate.TheVariants as checks
 use Rattle.art_key.specs.declared.bounds.Bound.{Bound}
 use Rattle.art_call.specs.ArtLook.Looks as looks
 use Rattle.art_call.specs.ArtLook.declared.looks.LookStage.{LookStage}
 use Rattle.art_call.specs.ArtLook.declared.looks.LookStage.TheVariants as look
 use Rattle.art_call.specs.ArtLook.declared.path_buffers.PathBuffer.{PathBuffer}
 use Rattle.art_call.proofs.ArtGather.LowerNames.{body_read, has_read}
-use Rattle.art_call.specs.ArtGather.Lowering as lowering
-use Rattle.art_call.specs.ArtGather.Lowering.{IsLowering}
-use Rattle.art_call.specs.ArtGather.declared.lowering.Lowering.{Lowering}
-use Rattle.art_call.specs.ArtGather.declared.lowering.Lowering.TheVariants as lowers
 use Rattle.art_call.specs.ArtFind.ReadSets.{node_of}
 use Rattle.art_call.specs.ArtFind.Rereadings.{reads_next}
 use Rattle.art_call.specs.ArtFind.declared.read_sets.ReadSet.{ReadSet}
-use Rattle.art_call.specs.ArtFind.declared.findings.Above.{Above}
 use Rattle.art_call.specs.ArtFind.declared.findings.Position.{Position}
 use Rattle.art_call.specs.ArtFind.declared.rereadings.Rereading.{Rereading}
 use Rattle.art_call.proofs.ArtPlan.ChildPlaces.{IsPlaceOf, place_byte}
@@ -97,29 +97,27 @@ BeginsNone o = (c : Cell) → o ≡ Some (Begin c) → ⊥
 pub reads_only : (x : Stamp) (r : Rereading) → BeginsNone (reads_next x r)
 reads_only x r = cond_both _ (Some (Read x r.place)) None BeginsNone (λ e c is. cc) (λ e c is. cc)
 
-pub above_reads_only : (r : Rereading) (o : Option Above) → BeginsNone (option_and_then (above_reads r) o)
-above_reads_only r (Some a) = reads_only a.stamp r
-above_reads_only r None = λ c is. cc
+stamp_reads_only : (r : Rereading) (x : Option Stamp) → BeginsNone (option_and_then (reads_by r) x)
+stamp_reads_only r (Some x) = reads_only x r
+stamp_reads_only r None = λ c is. cc
 
-pub above_checks_only : (o : Option Above) → BeginsNone (option_map above_checks o)
-above_checks_only (Some a) = λ c is. cc
-above_checks_only None = λ c is. cc
+stamp_checks_only : (x : Option Stamp) → BeginsNone (option_map checks_of x)
+stamp_checks_only (Some x) = λ c is. cc
+stamp_checks_only None = λ c is. cc
 
-pub vouching_begins_none : (t : Position) (s : Vouching) → BeginsNone (vouching.asks t s)
-vouching_begins_none t (vouches.Above r) = above_reads_only r t.above
-vouching_begins_none t (vouches.Here r) = reads_only t.stamp r
-vouching_begins_none t vouches.CheckAbove = above_checks_only t.above
-vouching_begins_none t vouches.CheckHere = λ c is. cc
-vouching_begins_none t (vouches.Ended r) = λ c is. cc
+pub validate_begins_none : (t : Position) (o : CellsOf) (s : Validate) → BeginsNone (validate.asks t o s)
+validate_begins_none t o (checks.Read role r) = stamp_reads_only r (validate.stamp_of t o role)
+validate_begins_none t o (checks.Check role) = stamp_checks_only (validate.stamp_of t o role)
+validate_begins_none t o (checks.Ended e) = λ c is. cc
 
 -- ---- the lower node
 
-module _ (z : Sizes) (k : List ℕ) (t : Position) (n : Node) (read_set : ReadSet) (u v : View) (fits : IsLowering z k t n read_set u v) where
+module _ (z : Sizes) (k : List ℕ) (t : Position) (n : Node) (read_set : ReadSet) (u v : View) (fits : StillNames z k t n read_set u v) where
   abbrev here : Node
   here = fits.here
 
   whole : IsWhole z v t.stamp (node_of read_set)
-  whole = node_whole z k t read_set v fits.vouching.standing fits.whole
+  whole = node_whole z k t read_set v fits.stands.standing fits.whole
 
   filled : IsFilled t.stamp.cell (node_of read_set) (body_read here (node_of read_set))
   filled m at =
@@ -145,18 +143,13 @@ module _ (z : Sizes) (k : List ℕ) (t : Position) (n : Node) (read_set : ReadSe
       (place_byte here.layout (s (cell.Node here)) name.place (shape.nodes here whole.path.0 at).body place)
 
   lower_led : IsLedTo z v (cell.Node n)
-  lower_led = (t.stamp, fits.vouching.standing.stamp.stamp, λ s shape holds. lower_stands s shape holds)
+  lower_led = (t.stamp, fits.stands.standing.stamp.stamp, λ s shape holds. lower_stands s shape holds)
 
-pub lower_begins : (z : Sizes) (k : List ℕ) (t : Position) (n : Node) (m : Lowering) (read_set : ReadSet) (reads : List (Option ℕ)) (u v : View) → lowering.StageFits z k t n m read_set reads u v
-    → (c : Cell) → lowering.asks t m ≡ Some (Begin c) → IsLedTo z v c
-lower_begins z k t n (lowers.Beginning a) read_set reads u v fits c is =
+pub naming_begins : (z : Sizes) (k : List ℕ) (t : Position) (n : Node) (m : Naming) (read_set : ReadSet) (reads : List (Option ℕ)) (u v : View) → naming.StageFits z k t n m read_set reads u v
+    → (c : Cell) → naming.asks t m ≡ Some (Begin c) → IsLedTo z v c
+naming_begins z k t n (names.Begin a) read_set reads u v fits c is =
     let same : Begin (cell.Node a) ≡ Begin c = same_Some _ _ is in
     let one : cell.Node a ≡ c = cc in
     subst (IsLedTo z v) one (subst (λ (b : Node). IsLedTo z v (cell.Node b)) (sym fits.1) (lower_led z k t n read_set u v fits.0))
-lower_begins z k t n (lowers.Named x) read_set reads u v fits c is = absurd (cc)
-lower_begins z k t n (lowers.Above x r) read_set reads u v fits c is = absurd (above_reads_only r t.above c is)
-lower_begins z k t n (lowers.Lower x r) read_set reads u v fits c is = absurd (reads_only x r c is)
-lower_begins z k t n (lowers.CheckAbove x) read_set reads u v fits c is = absurd (above_checks_only t.above c is)
-lower_begins z k t n (lowers.CheckHere x) read_set reads u v fits c is = absurd (cc)
-lower_begins z k t n (lowers.CheckLower x) read_set reads u v fits c is = absurd (cc)
-lower_begins z k t n (lowers.Ended r) read_set reads u v fits c is = absurd (cc)
+naming_begins z k t n (names.Check x) read_set reads u v fits c is = absurd (cc)
+naming_begins z k t n (names.Ended e) read_set reads u v fits c is = absurd (cc)

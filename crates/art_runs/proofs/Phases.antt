@@ -8,11 +8,12 @@ use Rattle.std.specs.Prelude.{◌==◌, ◌++◌}
 use Rattle.art_call.proofs.ArtAttempt.Free.{free_so}
 use Rattle.art_call.proofs.ArtAttempt.Finds.{finding_allowed}
 use Rattle.art_call.proofs.ArtAttempt.Given.{ask_looks}
-use Rattle.art_call.proofs.ArtAttempt.ArtGather.Asked.{IsSupply, lower_asks_look, reads_look, supply_asks_supply, vouch_asks_look}
+use Rattle.art_call.proofs.ArtAttempt.ArtGather.Asked.{IsSupply, naming_asks_look, reads_look, supply_asks_supply, validate_asks_look}
+use Rattle.art_call.specs.ArtAttempt.Cases.{cells_of}
 use Rattle.art_make.proofs.Keeping.{IsMade, asks_made}
 use Rattle.art_call.proofs.ArtAttempt.Left.{tries_some}
 use Rattle.art_call.specs.ArtAttempt.Attempts as attempts
-use Rattle.art_call.specs.ArtAttempt.Attempts.{free_at, held_left, last_left, apply_left, tries_left}
+use Rattle.art_call.specs.ArtAttempt.Attempts.{free_at, held_left, apply_left, tries_left}
 use Rattle.art_make.specs.Apply.{is_begun}
 use Rattle.art_call.specs.ArtAttempt.Trying.{StillTries}
 use Rattle.art_call.specs.ArtAttempt.declared.attempts.Attempt.{Attempt}
@@ -24,7 +25,7 @@ use Rattle.art_cell.specs.declared.cells.Cell.TheVariants as cell
 use Rattle.art_cell.specs.declared.cells.Node.{Node}
 use Rattle.art_call.proofs.ArtMake.Told.{map_some}
 use Rattle.art_call.specs.ArtMake.Apply as apply
-use Rattle.art_call.specs.ArtMake.Apply.{Fails, IsCommitted, put_into, releases}
+use Rattle.art_call.specs.ArtMake.Apply.{Fails, put_into, releases}
 use Rattle.art_call.specs.ArtMake.declared.apply.Apply.{Apply}
 use Rattle.art_call.specs.ArtMake.declared.apply.Apply.TheVariants.{Upgrading, Claiming, Filling, Writing, Committing, Releasing, ReleasingNode, GivingUp, Ended}
 use Rattle.art_call.specs.ArtPlan.Changes.{put_at, target_at}
@@ -227,8 +228,8 @@ module _ (z : Sizes) (b v : View) (r : Room) (a : Action) (left : ℕ) where
   attempt_look i short attempt.Finding fits some is look = (ap (λ (o : Rest). o.own) (free_so z b i r v short attempt.Finding refl refl fits).still.rest, many_tries left (some refl))
   attempt_look i short attempt.Reserve fits some is look = absurd (no_look_supply a (supply_asks_supply r.row.key.items r.row.value r.stock i.reserve a is) look)
   attempt_look i short (attempt.Reading q) fits some is look = (ap (λ (o : Rest). o.own) (free_so z b i r v short (attempt.Reading q) refl refl fits).still.rest, many_tries left (some refl))
-  attempt_look i short attempt.Vouching fits some is look = (ap (λ (o : Rest). o.own) (free_so z b i r v short attempt.Vouching refl refl fits).still.rest, many_tries left (some refl))
-  attempt_look i short attempt.Lowering fits some is look = (ap (λ (o : Rest). o.own) (free_so z b i r v short attempt.Lowering refl refl fits).still.rest, many_tries left (some refl))
+  attempt_look i short (attempt.Validate s) fits some is look = (ap (λ (o : Rest). o.own) (free_so z b i r v short (attempt.Validate s) refl refl fits).still.rest, many_tries left (some refl))
+  attempt_look i short (attempt.Naming byte n s) fits some is look = (ap (λ (o : Rest). o.own) (free_so z b i r v short (attempt.Naming byte n s) refl refl fits).still.rest, many_tries left (some refl))
   attempt_look i short attempt.Apply fits some is look = look_change fits.0.early i.apply fits.0.base fits.0.fits some is look
   attempt_look i short (attempt.Ended e) fits some is look = absurd (cc)
 
@@ -237,7 +238,7 @@ module _ (z : Sizes) (b v : View) (r : Room) (a : Action) (left : ℕ) where
   attempt_release i attempt.Finding fits is up own few many = no_release_look a (ask_looks z (attempts.deed_at i r) v a (finding_allowed z b i r v fits a is)) up
   attempt_release i attempt.Reserve fits is up own few many = no_release_supply a (supply_asks_supply r.row.key.items r.row.value r.stock i.reserve a is) up
   attempt_release i (attempt.Reading q) fits is up own few many = no_release_look a (reads_look i.position.stamp q a is) up
-  attempt_release i attempt.Vouching fits is up own few many = no_release_look a (vouch_asks_look i.position i.vouching a is) up
-  attempt_release i attempt.Lowering fits is up own few many = no_release_look a (lower_asks_look i.position i.lowering a is) up
+  attempt_release i (attempt.Validate s) fits is up own few many = no_release_look a (validate_asks_look i.position (cells_of i.case i.position.verdict) s a is) up
+  attempt_release i (attempt.Naming byte n s) fits is up own few many = no_release_look a (naming_asks_look i.position s a is) up
   attempt_release i attempt.Apply fits is up own few many = release_change fits.0.early i.apply fits.0.base fits.0.fits is up own few many
   attempt_release i (attempt.Ended e) fits is up own few many = absurd (cc)

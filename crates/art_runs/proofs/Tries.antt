@@ -5,10 +5,10 @@ use Rattle.std.specs.Option.{option_and_then, option_map}
 use Rattle.art_call.proofs.ArtAttempt.Free.{free_so}
 use Rattle.art_call.proofs.ArtAttempt.Finds.{finding_allowed}
 use Rattle.art_call.proofs.ArtAttempt.Given.{ask_looks}
-use Rattle.art_call.proofs.ArtAttempt.ArtGather.Asked.{lower_asks_look, reads_look, vouch_asks_look}
+use Rattle.art_call.proofs.ArtAttempt.ArtGather.Asked.{naming_asks_look, reads_look, validate_asks_look}
 use Rattle.art_call.specs.ArtAttempt.Asking.{IsAllowed}
 use Rattle.art_call.specs.ArtAttempt.Attempts as attempts
-use Rattle.art_call.specs.ArtAttempt.Cases.{demand_of}
+use Rattle.art_call.specs.ArtAttempt.Cases.{cells_of, demand_of}
 use Rattle.art_call.specs.ArtAttempt.declared.attempts.Job.{Job}
 use Rattle.art_call.specs.ArtAttempt.Trying.{StillTries}
 use Rattle.art_call.specs.ArtAttempt.declared.attempts.Attempt.{Attempt}
@@ -40,7 +40,7 @@ use Rattle.art_machine.specs.declared.actions.Action.{Action}
 use Rattle.art_machine.specs.declared.actions.Action.TheVariants.{Begin, Read, ReadLeaf, Check, Settle, Upgrade, Claim, Write, WriteLeaf, Commit, Release}
 use Rattle.art_machine.specs.declared.actions.Action.TheVariants.{ClearBit, GiveBack, Free, ReadEpoch, StorePin, RaiseEpoch, ReadPin}
 use Rattle.art_runs.proofs.Calm.{IsCellFounded, IsFounded, IsLedTo}
-use Rattle.art_runs.proofs.Cells.{descent_founded, lower_begins, reads_only, vouching_begins_none}
+use Rattle.art_runs.proofs.Cells.{descent_founded, naming_begins, reads_only, validate_begins_none}
 use Rattle.art_runs.proofs.Numbers.{supply_founded}
 use Rattle.art_runs.specs.OthersIdle.{HasFound}
 use Rattle.art_step.specs.Shows.{Rest}
@@ -161,11 +161,12 @@ module _ (z : Sizes) (m : Memory) (u b v : View) (had : HasFound m u v) (timely 
   attempt_founded i short (attempt.Reading q) fits is =
       let so = free_so z b i r v short (attempt.Reading q) refl refl fits in
       cell_founded (attempts.reading_asks i q) is (reads_look i.position.stamp q a is) so.still.free (λ c asks. absurd (reads_only i.position.stamp q c asks))
-  attempt_founded i short attempt.Vouching fits is =
-      let so = free_so z b i r v short attempt.Vouching refl refl fits in
-      cell_founded (attempts.vouching_asks i) is (vouch_asks_look i.position i.vouching a is) so.still.free (λ c asks. absurd (vouching_begins_none i.position i.vouching c asks))
-  attempt_founded i short attempt.Lowering fits is =
-      let so = free_so z b i r v short attempt.Lowering refl refl fits in
-      cell_founded (attempts.lower_asks i) is (lower_asks_look i.position i.lowering a is) so.still.free (lower_begins z r.row.key.items i.position fits.0.lower i.lowering r.read_set r.lower fits.0.early v fits.0.fits.stage)
+  attempt_founded i short (attempt.Validate s) fits is =
+      let so = free_so z b i r v short (attempt.Validate s) refl refl fits in
+      let o = cells_of i.case i.position.verdict in
+      cell_founded (attempts.validate_asks i s) is (validate_asks_look i.position o s a is) so.still.free (λ c asks. absurd (validate_begins_none i.position o s c asks))
+  attempt_founded i short (attempt.Naming byte n s) fits is =
+      let so = free_so z b i r v short (attempt.Naming byte n s) refl refl fits in
+      cell_founded (attempts.naming_asks i s) is (naming_asks_look i.position s a is) so.still.free (naming_begins z r.row.key.items i.position n s r.read_set r.lower fits.0.early v fits.0.fits.stage)
   attempt_founded i short attempt.Apply fits is = change_founded fits.0.early i.apply fits.0.fits is
   attempt_founded i short (attempt.Ended e) fits is = absurd (cc)

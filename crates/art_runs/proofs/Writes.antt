@@ -12,7 +12,6 @@ use Rattle.art_call.specs.ArtChange.declared.writes.Stage.TheVariants as stage
 use Rattle.art_call.specs.ArtChange.declared.writes.Write.{Write}
 use Rattle.art_epoch.specs.declared.limbo.Place.{Place}
 use Rattle.art_call.specs.ArtFrame.Closings as closings
-use Rattle.art_call.specs.ArtFrame.Closings.{gives, gives_link}
 use Rattle.art_call.specs.ArtFrame.Stocks.{count_in, one_of}
 use Rattle.art_call.specs.ArtFrame.declared.closings.Closing.{Closing}
 use Rattle.art_call.specs.ArtFrame.declared.closings.Closing.TheVariants.{Labelling, Giving, Ended}

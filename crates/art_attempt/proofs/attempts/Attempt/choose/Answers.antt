@@ -1,12 +1,12 @@
 use Rattle.std.proofs.Common.{◌∙◌, inl, sym, subst, arith}
 use Rattle.art_attempt.proofs.Tries.{later_first}
 use Rattle.art_attempt.proofs.Finds.{within_more}
-use Rattle.art_attempt.proofs.Cells.{vouching_begins}
+use Rattle.art_attempt.proofs.Cells.{stands_begins}
 use Rattle.art_attempt.proofs.attempts.Attempt.choose.Goals as goal
 use Rattle.art_attempt.specs.Cases.{IsCaseOf}
 use Rattle.art_attempt.specs.declared.attempts.Job.{Job}
 use Rattle.art_attempt.specs.declared.cases.Case.TheVariants.{DropLeaf, Shrink}
-use Rattle.art_gather.proofs.Vouches.{here_begins}
+use Rattle.art_gather.proofs.Validates.{here_begins}
 
 pub read_on-requires : goal.read_on-requires
 read_on-requires c = c.requires.5
@@ -15,7 +15,7 @@ pub returns-in-Merges-clause-fits : goal.returns-in-Merges-clause-fits
 returns-in-Merges-clause-fits c z u v room so job leaf standing =
     let m = c.args.self.now in
     let r = c.args.room.now in
-    let p = vouching_begins z u 1201 m.position r v so standing in
+    let p = stands_begins z u 1201 m.position r v so standing in
     c.read_on.ensures.fits z u v room (record {
       early = v;
       base = so.still;
@@ -26,7 +26,7 @@ returns-in-Merges-clause-fits c z u v room so job leaf standing =
       leaf = leaf;
       reads = p;
       merges = sym c.loss.ensures ∙ c.in-Merges.is;
-      fits = here_begins z r.row.key.items m.position r.read_set v v p c.new.result c.node.result.now c.node.ensures (c.new.ensures.fits z v m.position.stamp);
+      fits = here_begins z r.row.key.items m.position r.read_set v v c.new.result c.node.result.now p c.node.ensures (c.new.ensures.fits z v m.position.stamp);
     })
 
 pub supply-requires : goal.supply-requires
@@ -42,4 +42,4 @@ returns-in-Shrinks-clause-fits c z u v room so job leaf standing =
 pub returns-in-Leaf-clause-fits : goal.returns-in-Leaf-clause-fits
 returns-in-Leaf-clause-fits c z u v room so job leaf standing =
     let r = c.args.room.now in
-    c.vouch.ensures.fits z u v room (within_more z u 1201 21700 r v (omega arith) so) (subst (λ (j : Job). IsCaseOf j DropLeaf) (sym job) tt) standing (leaf, inl (sym c.loss.ensures ∙ c.in-Leaf.is))
+    c.validate.ensures.fits z u v room (within_more z u 1201 21702 r v (omega arith) so) (subst (λ (j : Job). IsCaseOf j DropLeaf) (sym job) tt) standing (leaf, inl (sym c.loss.ensures ∙ c.in-Leaf.is)) tt

@@ -1,5 +1,5 @@
 use Rattle.std.proofs.Common.{sym, subst, arith}
-use Rattle.art_attempt.proofs.Finds.{within_so}
+use Rattle.art_attempt.proofs.Finds.{within_more, within_so}
 use Rattle.art_attempt.proofs.Numbers.{supplies_alone, supplies_full, supplies_so, supplies_standing}
 use Rattle.art_attempt.proofs.attempts.Attempt.lack.Goals as goal
 use Rattle.art_attempt.specs.Cases.{IsCaseOf}
@@ -24,5 +24,5 @@ pub returns-in-Remove-clause-fits : goal.returns-in-Remove-clause-fits
 returns-in-Remove-clause-fits c z u v room h full =
     let m = c.args.self.now in
     let r = c.args.room.now in
-    c.vouch.ensures.fits z u v room (supplies_so z u m r v h) (subst (λ (j : Job). IsCaseOf j DropLeaf) (sym c.in-Remove.is) tt) (supplies_standing z u m r v h)
-    (supplies_alone z u m r v h c.in-Remove.is c.args.pool full)
+    c.validate.ensures.fits z u v room (within_more z u 21700 21702 r v (omega arith) (supplies_so z u m r v h)) (subst (λ (j : Job). IsCaseOf j DropLeaf) (sym c.in-Remove.is) tt) (supplies_standing z u m r v h)
+    (supplies_alone z u m r v h c.in-Remove.is c.args.pool full) tt

@@ -47,43 +47,42 @@ returns-in-Reading-clause-going c z u v fits going =
     let stage = subst (λ (s : StageOf). StageFits z u s m r v) c.in-Reading.is fits.stage in
     c.read_next.ensures.going z u v r stage.0 stage.1
 
-pub returns-in-Vouching-clause-asks : goal.returns-in-Vouching-clause-asks
-returns-in-Vouching-clause-asks c =
+pub returns-in-Naming-clause-asks : goal.returns-in-Naming-clause-asks
+returns-in-Naming-clause-asks c =
     let m = c.args.self.now in
     let r = c.args.room.now in
-    c.vouch_next.ensures.asks r ∙ sym (ap (λ (s : StageOf). asks_at s m r) c.in-Vouching.is)
+    c.name_next.ensures.asks ∙ sym (ap (λ (s : StageOf). asks_at s m r) c.in-Naming.is)
 
-pub returns-in-Vouching-clause-allowed : goal.returns-in-Vouching-clause-allowed
-returns-in-Vouching-clause-allowed c z u v fits =
+pub returns-in-Naming-clause-allowed : goal.returns-in-Naming-clause-allowed
+returns-in-Naming-clause-allowed c z u v fits =
     let m = c.args.self.now in
     let r = c.args.room.now in
-    c.vouch_next.ensures.allowed z u v r (deed_at m r) (subst (λ (s : StageOf). StageFits z u s m r v) c.in-Vouching.is fits.stage).0
+    c.name_next.ensures.allowed z u v c.in-Naming.byte c.in-Naming.node r (deed_at m r) (subst (λ (s : StageOf). StageFits z u s m r v) c.in-Naming.is fits.stage).0
 
-pub returns-in-Vouching-clause-going : goal.returns-in-Vouching-clause-going
-returns-in-Vouching-clause-going c z u v fits going =
+pub returns-in-Naming-clause-going : goal.returns-in-Naming-clause-going
+returns-in-Naming-clause-going c z u v fits going =
     let m = c.args.self.now in
     let r = c.args.room.now in
-    let stage = subst (λ (s : StageOf). StageFits z u s m r v) c.in-Vouching.is fits.stage in
-    c.vouch_next.ensures.going z u v r stage.0 stage.1
+    c.name_next.ensures.going (subst (λ (s : StageOf). StageFits z u s m r v) c.in-Naming.is fits.stage).1
 
-pub returns-in-Lowering-clause-asks : goal.returns-in-Lowering-clause-asks
-returns-in-Lowering-clause-asks c =
+pub returns-in-Validate-clause-asks : goal.returns-in-Validate-clause-asks
+returns-in-Validate-clause-asks c =
     let m = c.args.self.now in
     let r = c.args.room.now in
-    c.lower_next.ensures.asks r ∙ sym (ap (λ (s : StageOf). asks_at s m r) c.in-Lowering.is)
+    c.validate_next.ensures.asks ∙ sym (ap (λ (s : StageOf). asks_at s m r) c.in-Validate.is)
 
-pub returns-in-Lowering-clause-allowed : goal.returns-in-Lowering-clause-allowed
-returns-in-Lowering-clause-allowed c z u v fits =
+pub returns-in-Validate-clause-allowed : goal.returns-in-Validate-clause-allowed
+returns-in-Validate-clause-allowed c z u v fits =
     let m = c.args.self.now in
     let r = c.args.room.now in
-    c.lower_next.ensures.allowed z u v r (deed_at m r) (subst (λ (s : StageOf). StageFits z u s m r v) c.in-Lowering.is fits.stage).0
+    c.validate_next.ensures.allowed z u v r (deed_at m r) (subst (λ (s : StageOf). StageFits z u s m r v) c.in-Validate.is fits.stage).0
 
-pub returns-in-Lowering-clause-going : goal.returns-in-Lowering-clause-going
-returns-in-Lowering-clause-going c z u v fits going =
+pub returns-in-Validate-clause-going : goal.returns-in-Validate-clause-going
+returns-in-Validate-clause-going c z u v fits going =
     let m = c.args.self.now in
     let r = c.args.room.now in
-    let stage = subst (λ (s : StageOf). StageFits z u s m r v) c.in-Lowering.is fits.stage in
-    c.lower_next.ensures.going z u v r stage.0 stage.1
+    let stage = subst (λ (s : StageOf). StageFits z u s m r v) c.in-Validate.is fits.stage in
+    c.validate_next.ensures.going z u v r stage.0 stage.1
 
 pub returns-in-Apply-clause-allowed : goal.returns-in-Apply-clause-allowed
 returns-in-Apply-clause-allowed c z u v fits =

@@ -1,5 +1,5 @@
 use Rattle.std.proofs.Common.{sym, subst}
-use Rattle.art_attempt.proofs.Cells.{gone_standing, seen_here, vouched_locks, vouched_so, vouched_stood}
+use Rattle.art_attempt.proofs.Cells.{gone_standing, seen_here, validated_locks, validated_so, validated_stood}
 use Rattle.art_attempt.proofs.Commits.{leaf_may}
 use Rattle.art_attempt.proofs.Chosen.{goes_remove}
 use Rattle.art_attempt.proofs.attempts.Attempt.plan_stays.Goals as goal
@@ -12,23 +12,23 @@ use Rattle.art_attempt.specs.declared.rooms.Room.{Room}
 
 pub plan_drop-requires-clause-seen : goal.plan_drop-requires-clause-seen
 plan_drop-requires-clause-seen c =
-    let q = c.requires.vouched in
+    let q = c.requires.validated in
     let m = c.args.self.now in
     let r = c.args.room.now in
     let known = subst (λ (d : CaseOf). IsKnown q.0 q.1 d m.position r q.2) c.requires.case q.4.known in
-    (q.0, seen_here q.0 q.1 m r q.2 q.4 q.5 known.0)
+    (q.0, seen_here q.0 q.1 m r q.2 q.4 known.0)
 
 pub plan_drop-requires-clause-found : goal.plan_drop-requires-clause-found
 plan_drop-requires-clause-found c =
-    let q = c.requires.vouched in
+    let q = c.requires.validated in
     let known = subst (λ (d : CaseOf). IsKnown q.0 q.1 d c.args.self.now.position c.args.room.now q.2) c.requires.case q.4.known in
     known.0.found
 
 pub returns-clause-fits : goal.returns-clause-fits
-returns-clause-fits c z u v room h is =
+returns-clause-fits c z u v room h =
     let m = c.args.self.now in
     let r = c.args.room.now in
-    let so = vouched_so z u m r v h is in
+    let so = validated_so z u m r v h in
     let plan = c.plan_drop.ensures in
     let case = c.requires.case in
     let known = subst (λ (d : CaseOf). IsKnown z u d m.position r v) case h.known in
@@ -36,5 +36,5 @@ returns-clause-fits c z u v room h is =
     let then : Room = record r { bodies = c.plan_drop.new.bodies; change = c.plan_drop.new.change } in
     let job = goes_remove m.job m.case (subst (IsCaseOf Remove) (sym case) tt) h.case in
     c.begin.ensures.fits z u v (record { sizes = room.sizes; key = room.key }) (record { still = so.still; spent = so.spent; has = so.has })
-    (leaf_may z u m then v job (record { found = leaf.found; key = leaf.key }) (vouched_stood z u m r v h is) DropLeaf case tt plan.effects
-    (plan.planned z v (seen_here z u m r v h is leaf) (gone_standing z u m r v h is leaf)) (known.1) plan.targets (vouched_locks z u m r v h is DropLeaf case tt then.change plan.locks))
+    (leaf_may z u m then v job (record { found = leaf.found; key = leaf.key }) (validated_stood z u m r v h) DropLeaf case tt plan.effects
+    (plan.planned z v (seen_here z u m r v h leaf) (gone_standing z u m r v h leaf)) (known.1) plan.targets (validated_locks z u m r v h DropLeaf case then.change plan.locks))

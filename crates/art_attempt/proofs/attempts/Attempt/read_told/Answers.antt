@@ -1,4 +1,4 @@
-use Rattle.std.proofs.Common.{◌∙◌, inl, sym, subst}
+use Rattle.std.proofs.Common.{◌∙◌, inl, sym, subst, arith}
 use Rattle.art_attempt.proofs.Rereads.{IsNotedBy, reread_on, reread_shrinks, reread_so, reread_standing}
 use Rattle.art_attempt.proofs.attempts.Attempt.read_told.Goals as goal
 use Rattle.art_attempt.specs.Cases.{IsCaseOf}
@@ -36,8 +36,8 @@ returns-in-Leaf-clause-fits c z u v w asked room h is row =
     let noted : IsNotedBy m r c.args.rereading c.found.result c.reread_node.new.rereading read_set = record { steps = c.reread_node.ensures.steps; above = c.reread_node.ensures.above; stays = c.reread_node.ensures.stays; fits = λ z v w. c.reread_node.ensures.fits z v w m.position.stamp } in
     let so = reread_so z u m c.args.rereading c.reread_node.new.rereading r v w read_set c.found.result asked c.args.answer h c.requires.more is row c.found.ensures noted in
     let standing = reread_standing z u m c.args.rereading c.reread_node.new.rereading r v w read_set c.found.result asked c.args.answer h c.requires.more is row c.found.ensures noted in
-    c.vouch.ensures.fits z u w (record { sizes = room.sizes; key = room.key }) (record { still = so.still; spent = so.spent; has = so.has }) (subst (λ (j : Job). IsCaseOf j DropLeaf) (sym h.job) tt)
-    standing (record { found = h.leaf.found; key = h.leaf.key }, inl (sym c.loss.ensures ∙ c.in-Leaf.is))
+    c.validate.ensures.fits z u w (record { sizes = room.sizes; key = room.key }) (record { still = so.still; spent = λ limited. (let spent = so.spent limited in omega (arith, spent)); has = so.has }) (subst (λ (j : Job). IsCaseOf j DropLeaf) (sym h.job) tt)
+    standing (record { found = h.leaf.found; key = h.leaf.key }, inl (sym c.loss.ensures ∙ c.in-Leaf.is)) tt
 
 pub returns-in-Merges-clause-fits : goal.returns-in-Merges-clause-fits
 returns-in-Merges-clause-fits c z u v w asked room h is row =

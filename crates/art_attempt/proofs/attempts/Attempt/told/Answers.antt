@@ -1,11 +1,12 @@
 use Rattle.std.proofs.Common.{◌∙◌, ◌-◌, ◌<◌, ap, sym, subst}
 use Rattle.art_attempt.proofs.Given.{ask_looks, look_once, look_row, made_row, plain_row, supply_once, supply_plain}
-use Rattle.art_gather.proofs.Asked.{lower_asks_look, reads_look, supply_asks_supply, vouch_asks_look}
+use Rattle.art_gather.proofs.Asked.{naming_asks_look, reads_look, supply_asks_supply, validate_asks_look}
 use Rattle.art_make.proofs.Keeping.{asks_made}
 use Rattle.art_attempt.specs.Asking.{given}
 use Rattle.art_attempt.proofs.Finds.{finding_allowed}
 use Rattle.art_attempt.proofs.Left.{free_less}
 use Rattle.art_attempt.proofs.attempts.Attempt.told.Goals as goal
+use Rattle.art_attempt.specs.Cases.{cells_of}
 use Rattle.art_attempt.specs.Attempts.{StageFits, asks_at, deed_at, free_at, left_at, steps_left}
 use Rattle.art_attempt.specs.declared.attempts.Stage.{Stage as StageOf}
 use Rattle.art_machine.specs.Acting.{steps_in}
@@ -46,23 +47,23 @@ returns-in-Reading-clause-fits c z u v w asked fits is row =
     let at = sym (ap (λ (s : StageOf). asks_at s m r) c.in-Reading.is) ∙ is in
     c.read_told.ensures.fits z u v w asked fits.room stage.0 at (look_row z d r.change asked c.args.answer v w (reads_look m.position.stamp c.in-Reading.rereading asked at) row)
 
-pub returns-in-Vouching-clause-fits : goal.returns-in-Vouching-clause-fits
-returns-in-Vouching-clause-fits c z u v w asked fits is row =
+pub returns-in-Validate-clause-fits : goal.returns-in-Validate-clause-fits
+returns-in-Validate-clause-fits c z u v w asked fits is row =
     let m = c.args.self.now in
     let r = c.args.room.now in
     let d = deed_at m r in
-    let stage = subst (λ (s : StageOf). StageFits z u s m r v) c.in-Vouching.is fits.stage in
-    let at = sym (ap (λ (s : StageOf). asks_at s m r) c.in-Vouching.is) ∙ is in
-    c.vouch_told.ensures.fits z u v w asked fits.room stage.0 at (look_row z d r.change asked c.args.answer v w (vouch_asks_look m.position m.vouching asked at) row)
+    let stage = subst (λ (s : StageOf). StageFits z u s m r v) c.in-Validate.is fits.stage in
+    let at = sym (ap (λ (s : StageOf). asks_at s m r) c.in-Validate.is) ∙ is in
+    c.validate_told.ensures.fits z u v w asked fits.room stage.0 at (look_row z d r.change asked c.args.answer v w (validate_asks_look m.position (cells_of m.case m.position.verdict) c.in-Validate.validate asked at) row)
 
-pub returns-in-Lowering-clause-fits : goal.returns-in-Lowering-clause-fits
-returns-in-Lowering-clause-fits c z u v w asked fits is row =
+pub returns-in-Naming-clause-fits : goal.returns-in-Naming-clause-fits
+returns-in-Naming-clause-fits c z u v w asked fits is row =
     let m = c.args.self.now in
     let r = c.args.room.now in
     let d = deed_at m r in
-    let stage = subst (λ (s : StageOf). StageFits z u s m r v) c.in-Lowering.is fits.stage in
-    let at = sym (ap (λ (s : StageOf). asks_at s m r) c.in-Lowering.is) ∙ is in
-    c.lower_told.ensures.fits z u v w asked fits.room stage.0 at (look_row z d r.change asked c.args.answer v w (lower_asks_look m.position m.lowering asked at) row)
+    let stage = subst (λ (s : StageOf). StageFits z u s m r v) c.in-Naming.is fits.stage in
+    let at = sym (ap (λ (s : StageOf). asks_at s m r) c.in-Naming.is) ∙ is in
+    c.name_told.ensures.fits z u v w asked fits.room stage.0 at (look_row z d r.change asked c.args.answer v w (naming_asks_look m.position c.in-Naming.naming asked at) row)
 
 pub returns-in-Apply-clause-fits : goal.returns-in-Apply-clause-fits
 returns-in-Apply-clause-fits c z u v w asked fits is row =
@@ -110,29 +111,29 @@ returns-in-Reading-clause-left c left begun =
     subst (λ (s : StageOf). steps_left (left - steps_in c.args.answer) next < left_at left s m.apply) (sym c.in-Reading.is)
     (free_less left (steps_in c.args.answer) next.stage next.apply (begun (ap (λ (s : StageOf). free_at s m.apply) c.in-Reading.is)) one c.read_told.ensures.free)
 
-pub returns-in-Vouching-clause-left : goal.returns-in-Vouching-clause-left
-returns-in-Vouching-clause-left c left begun =
+pub returns-in-Validate-clause-left : goal.returns-in-Validate-clause-left
+returns-in-Validate-clause-left c left begun =
     let m = c.args.self.now in
     let r = c.args.room.now in
     let d = deed_at m r in
     let q = c.requires in
-    let at = sym (ap (λ (s : StageOf). asks_at s m r) c.in-Vouching.is) ∙ q.6 in
-    let one = look_once q.0 (given d r.change q.4) q.4 c.args.answer q.2 q.3 (vouch_asks_look m.position m.vouching q.4 at) q.7 in
-    let next = c.vouch_told.new.self in
-    subst (λ (s : StageOf). steps_left (left - steps_in c.args.answer) next < left_at left s m.apply) (sym c.in-Vouching.is)
-    (free_less left (steps_in c.args.answer) next.stage next.apply (begun (ap (λ (s : StageOf). free_at s m.apply) c.in-Vouching.is)) one c.vouch_told.ensures.free)
+    let at = sym (ap (λ (s : StageOf). asks_at s m r) c.in-Validate.is) ∙ q.6 in
+    let one = look_once q.0 (given d r.change q.4) q.4 c.args.answer q.2 q.3 (validate_asks_look m.position (cells_of m.case m.position.verdict) c.in-Validate.validate q.4 at) q.7 in
+    let next = c.validate_told.new.self in
+    subst (λ (s : StageOf). steps_left (left - steps_in c.args.answer) next < left_at left s m.apply) (sym c.in-Validate.is)
+    (free_less left (steps_in c.args.answer) next.stage next.apply (begun (ap (λ (s : StageOf). free_at s m.apply) c.in-Validate.is)) one c.validate_told.ensures.free)
 
-pub returns-in-Lowering-clause-left : goal.returns-in-Lowering-clause-left
-returns-in-Lowering-clause-left c left begun =
+pub returns-in-Naming-clause-left : goal.returns-in-Naming-clause-left
+returns-in-Naming-clause-left c left begun =
     let m = c.args.self.now in
     let r = c.args.room.now in
     let d = deed_at m r in
     let q = c.requires in
-    let at = sym (ap (λ (s : StageOf). asks_at s m r) c.in-Lowering.is) ∙ q.6 in
-    let one = look_once q.0 (given d r.change q.4) q.4 c.args.answer q.2 q.3 (lower_asks_look m.position m.lowering q.4 at) q.7 in
-    let next = c.lower_told.new.self in
-    subst (λ (s : StageOf). steps_left (left - steps_in c.args.answer) next < left_at left s m.apply) (sym c.in-Lowering.is)
-    (free_less left (steps_in c.args.answer) next.stage next.apply (begun (ap (λ (s : StageOf). free_at s m.apply) c.in-Lowering.is)) one c.lower_told.ensures.free)
+    let at = sym (ap (λ (s : StageOf). asks_at s m r) c.in-Naming.is) ∙ q.6 in
+    let one = look_once q.0 (given d r.change q.4) q.4 c.args.answer q.2 q.3 (naming_asks_look m.position c.in-Naming.naming q.4 at) q.7 in
+    let next = c.name_told.new.self in
+    subst (λ (s : StageOf). steps_left (left - steps_in c.args.answer) next < left_at left s m.apply) (sym c.in-Naming.is)
+    (free_less left (steps_in c.args.answer) next.stage next.apply (begun (ap (λ (s : StageOf). free_at s m.apply) c.in-Naming.is)) one c.name_told.ensures.free)
 
 pub returns-in-Apply-clause-left : goal.returns-in-Apply-clause-left
 returns-in-Apply-clause-left c left begun =
@@ -150,25 +151,25 @@ read_told-requires-clause-told c =
     let at = sym (ap (λ (s : StageOf). asks_at s m r) c.in-Reading.is) ∙ q.6 in
     (q.0, q.1, q.2, q.3, q.4, q.5.room, stage.0, at, look_row q.0 d r.change q.4 c.args.answer q.2 q.3 (reads_look m.position.stamp c.in-Reading.rereading q.4 at) q.7)
 
-pub vouch_told-requires-clause-told : goal.vouch_told-requires-clause-told
-vouch_told-requires-clause-told c =
+pub validate_told-requires : goal.validate_told-requires
+validate_told-requires c =
     let m = c.args.self.now in
     let r = c.args.room.now in
     let q = c.requires in
     let d = deed_at m r in
-    let stage = subst (λ (s : StageOf). StageFits q.0 q.1 s m r q.2) c.in-Vouching.is q.5.stage in
-    let at = sym (ap (λ (s : StageOf). asks_at s m r) c.in-Vouching.is) ∙ q.6 in
-    (q.0, q.1, q.2, q.3, q.4, q.5.room, stage.0, at, look_row q.0 d r.change q.4 c.args.answer q.2 q.3 (vouch_asks_look m.position m.vouching q.4 at) q.7)
+    let stage = subst (λ (s : StageOf). StageFits q.0 q.1 s m r q.2) c.in-Validate.is q.5.stage in
+    let at = sym (ap (λ (s : StageOf). asks_at s m r) c.in-Validate.is) ∙ q.6 in
+    (q.0, q.1, q.2, q.3, q.4, q.5.room, stage.0, at, look_row q.0 d r.change q.4 c.args.answer q.2 q.3 (validate_asks_look m.position (cells_of m.case m.position.verdict) c.in-Validate.validate q.4 at) q.7)
 
-pub lower_told-requires-clause-told : goal.lower_told-requires-clause-told
-lower_told-requires-clause-told c =
+pub name_told-requires : goal.name_told-requires
+name_told-requires c =
     let m = c.args.self.now in
     let r = c.args.room.now in
     let q = c.requires in
     let d = deed_at m r in
-    let stage = subst (λ (s : StageOf). StageFits q.0 q.1 s m r q.2) c.in-Lowering.is q.5.stage in
-    let at = sym (ap (λ (s : StageOf). asks_at s m r) c.in-Lowering.is) ∙ q.6 in
-    (q.0, q.1, q.2, q.3, q.4, q.5.room, stage.0, at, look_row q.0 d r.change q.4 c.args.answer q.2 q.3 (lower_asks_look m.position m.lowering q.4 at) q.7)
+    let stage = subst (λ (s : StageOf). StageFits q.0 q.1 s m r q.2) c.in-Naming.is q.5.stage in
+    let at = sym (ap (λ (s : StageOf). asks_at s m r) c.in-Naming.is) ∙ q.6 in
+    (q.0, q.1, q.2, q.3, q.4, q.5.room, stage.0, at, look_row q.0 d r.change q.4 c.args.answer q.2 q.3 (naming_asks_look m.position c.in-Naming.naming q.4 at) q.7)
 
 pub returns-in-Reserve-clause-overlaps : goal.returns-in-Reserve-clause-overlaps
 returns-in-Reserve-clause-overlaps c is = absurd (c.supply_told.ensures.not_overlaps is)
@@ -176,11 +177,11 @@ returns-in-Reserve-clause-overlaps c is = absurd (c.supply_told.ensures.not_over
 pub returns-in-Reading-clause-overlaps : goal.returns-in-Reading-clause-overlaps
 returns-in-Reading-clause-overlaps c is = absurd (c.read_told.ensures.not_overlaps is)
 
-pub returns-in-Vouching-clause-overlaps : goal.returns-in-Vouching-clause-overlaps
-returns-in-Vouching-clause-overlaps c is = absurd (c.vouch_told.ensures.not_overlaps is)
+pub returns-in-Validate-clause-overlaps : goal.returns-in-Validate-clause-overlaps
+returns-in-Validate-clause-overlaps c is = absurd (c.validate_told.ensures.not_overlaps is)
 
-pub returns-in-Lowering-clause-overlaps : goal.returns-in-Lowering-clause-overlaps
-returns-in-Lowering-clause-overlaps c is = absurd (c.lower_told.ensures.not_overlaps is)
+pub returns-in-Naming-clause-overlaps : goal.returns-in-Naming-clause-overlaps
+returns-in-Naming-clause-overlaps c is = absurd (c.name_told.ensures.not_overlaps is)
 
 pub returns-in-Apply-clause-overlaps : goal.returns-in-Apply-clause-overlaps
 returns-in-Apply-clause-overlaps c is = absurd (c.make_told.ensures.not_overlaps is)

@@ -1,0 +1,18 @@
+use Rattle.std.proofs.Common.{◌∙◌, Some, ap, sym}
+use Rattle.art_attempt.proofs.Names.{naming_at}
+use Rattle.art_attempt.proofs.attempts.Attempt.name_on.Goals as goal
+use Rattle.art_attempt.specs.declared.attempts.Stage.TheVariants as stages
+use Rattle.art_gather.specs.declared.naming.Named.{Named}
+
+pub returns-in-None-clause-fits : goal.returns-in-None-clause-fits
+returns-in-None-clause-fits c z u v room h =
+    let m = c.args.self.now in
+    let r = c.args.room.now in
+    let here = stages.Naming c.args.byte c.args.node c.args.naming in
+    record { room = room; stage = (naming_at z u m c.args.byte c.args.node c.args.naming r v h here, sym c.ended.ensures.at ∙ c.in-None.is) }
+
+pub returns-in-Some-clause-fits : goal.returns-in-Some-clause-fits
+returns-in-Some-clause-fits c z u v room h = c.named.ensures.fits z u v c.args.naming room h (sym c.ended.ensures.at ∙ c.in-Some.is)
+
+pub returns-in-Some-clause-anew : goal.returns-in-Some-clause-anew
+returns-in-Some-clause-anew c anew = sym c.ended.ensures.at ∙ (c.in-Some.is ∙ ap (λ (e : Named). Some e) (c.named.ensures.anew anew))
