@@ -19,17 +19,17 @@ use Rattle.art_attempt.specs.Trying.{StillTries, StoodAtCheck, at_check}
 use Rattle.art_attempt.specs.declared.rooms.Room.{Room}
 use Rattle.art_make.specs.Apply.{KeepsCheck}
 use Rattle.art_attempt.proofs.LastCheck.{none_stays, stood_stays}
-use Rattle.art_gather.specs.Reserve.{StayFound}
+use Rattle.art_attempt.specs.Reserve.{StayFound}
 use Rattle.art_attempt.specs.Attempts.{GoesBy, IsExhausted, IsKnown, WantsNumbers}
 use Rattle.art_attempt.specs.Cases.{HasLeaf, HasNoSmaller, IsCaseOf, IsChosen, IsNeverSeen, IsTold, IsWay, LeafGoes, LeavesOther, LocksChecked, MayStay, cells_of, demand_of, effects_of, leaves_by}
 use Rattle.art_attempt.specs.declared.attempts.Job.{Job}
 use Rattle.art_attempt.specs.declared.attempts.Job.TheVariants.{Insert, Remove}
 use Rattle.art_attempt.specs.declared.cases.Case.{Case}
 use Rattle.art_attempt.specs.declared.cases.Case.TheVariants as case
-use Rattle.art_frame.specs.declared.stocks.Stock.{Stock}
-use Rattle.art_gather.specs.Reserve.{HasNone}
-use Rattle.art_gather.specs.Naming.{KnowsHere}
-use Rattle.art_gather.specs.Validate.{HasJustChecked}
+use Rattle.art_epoch.specs.declared.stocks.Stock.{Stock}
+use Rattle.art_attempt.specs.Reserve.{HasNone}
+use Rattle.art_attempt.specs.Naming.{KnowsHere}
+use Rattle.art_attempt.specs.Validate.{HasJustChecked}
 use Rattle.art_find.proofs.FoundPlaces.{standing_grows}
 use Rattle.art_find.proofs.Keeping.{Grows}
 use Rattle.art_find.specs.Findings.{IsStanding}

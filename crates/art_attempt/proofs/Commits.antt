@@ -16,8 +16,8 @@ use Rattle.art_attempt.specs.declared.cases.Case.{Case}
 use Rattle.art_attempt.specs.declared.rooms.Room.{Room}
 use Rattle.art_cell.specs.declared.cells.Link.TheVariants.{Node as node}
 use Rattle.art_cell.specs.declared.cells.Node.{Node}
-use Rattle.art_frame.proofs.Stocked.{linked_are_in, stock_commits}
-use Rattle.art_frame.specs.Stocks.{IsIn}
+use Rattle.art_epoch.proofs.Stocked.{linked_are_in, stock_commits}
+use Rattle.art_epoch.specs.Stocks.{IsIn}
 use Rattle.art_machine.specs.declared.actions.Effects.{Effects}
 use Rattle.art_make.proofs.Told.{ends_as}
 use Rattle.art_make.specs.Apply as apply

@@ -3,7 +3,7 @@ use Rattle.std.proofs.Common.{◌≡◌, ◌∙◌, ◌+◌, ℕ, nat_lt, Bool, 
 use Rattle.std.proofs.lemmas.Option.{same_Some}
 use Rattle.art_attempt.proofs.Finds.{finding_allowed}
 use Rattle.art_attempt.proofs.Given.{ask_looks, look_once, look_row, made_row, plain_row, supply_once, supply_plain}
-use Rattle.art_gather.proofs.Asked.{if_some, naming_asks_look, reads_look, supply_asks_supply, validate_asks_look}
+use Rattle.art_attempt.proofs.Asked.{if_some, naming_asks_look, reads_look, supply_asks_supply, validate_asks_look}
 use Rattle.art_make.proofs.Keeping.{asks_made}
 use Rattle.art_attempt.specs.Asking.{Answers, given}
 use Rattle.art_attempt.specs.Attempts.{Fits, StageFits, asks, asks_at, deed_at}
@@ -18,13 +18,13 @@ use Rattle.art_epoch.specs.Taking as taking
 use Rattle.art_epoch.specs.declared.taking.Search.{Search}
 use Rattle.art_epoch.specs.declared.taking.Search.TheVariants.{Looking, Clearing, Took}
 use Rattle.art_epoch.specs.declared.taking.Taking.{Taking}
-use Rattle.art_frame.specs.declared.stocks.Stock.{Stock}
-use Rattle.art_gather.proofs.Supplies.{one_written}
-use Rattle.art_gather.specs.Reserve as reserve
-use Rattle.art_gather.specs.Reserve.{Fits as SupplyFits}
-use Rattle.art_gather.specs.declared.reserve.Reserve.{Reserve}
-use Rattle.art_gather.specs.declared.reserve.Reserve.TheVariants as at
-use Rattle.art_gather.specs.declared.reserve.Demand.{Demand}
+use Rattle.art_epoch.specs.declared.stocks.Stock.{Stock}
+use Rattle.art_attempt.proofs.Reserves.{one_written}
+use Rattle.art_attempt.specs.Reserve as reserve
+use Rattle.art_attempt.specs.Reserve.{Fits as SupplyFits}
+use Rattle.art_attempt.specs.declared.reserve.Reserve.{Reserve}
+use Rattle.art_attempt.specs.declared.reserve.Reserve.TheVariants as at
+use Rattle.art_attempt.specs.declared.reserve.Demand.{Demand}
 use Rattle.art_machine.proofs.Counting.{look_counts, steps_made, taking_counts}
 use Rattle.art_machine.specs.Acting as acting
 use Rattle.art_machine.specs.Acting.{IsLook, steps_in}

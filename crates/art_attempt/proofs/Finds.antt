@@ -31,7 +31,7 @@ use Rattle.art_find.specs.declared.descents.Stage.{Stage}
 use Rattle.art_find.specs.declared.descents.Stage.TheVariants.{Start, Anchor, Child, Below, Both, Header, Prefix, Keys, Slot, Value, Length, Bytes, Decided, Ended}
 use Rattle.art_find.specs.declared.verdicts.Verdict.{Verdict}
 use Rattle.art_find.specs.declared.verdicts.Verdict.TheVariants.{Found, Empty, LeafMismatch, PrefixMismatch, NoChild, Overlaps, Torn, Absent}
-use Rattle.art_frame.proofs.Stocked.{stock_same}
+use Rattle.art_epoch.proofs.Stocked.{stock_same}
 use Rattle.art_machine.proofs.AnswerKinds.{answers_plain, finds_word}
 use Rattle.art_machine.specs.Acting.{Answers, IsLook, IsPlain, goes_on, passed, telling}
 use Rattle.art_machine.specs.declared.actions.Action.{Action}

@@ -1,7 +1,7 @@
 -- As long as nothing is held, an attempt may be given up with nothing told.
 use Rattle.std.proofs.Common.{◌≡◌, ℕ, ◌<◌, ◌≤◌, length, Bool, true, false, List, [], ◌∷◌, None, inl, refl, sym, ap, ◌∙◌, subst, arith, ⊎_elim}
 use Rattle.std.proofs.lemmas.Bool.{eqb-true}
-use Rattle.art_attempt.proofs.Cells.{reading_so, validating_so}
+use Rattle.art_attempt.proofs.CaseCells.{reading_so, validating_so}
 use Rattle.art_attempt.proofs.Names.{naming_so}
 use Rattle.art_attempt.proofs.Numbers.{supplies_so}
 use Rattle.art_attempt.proofs.Finds.{ends_reading, within_so}
@@ -15,7 +15,7 @@ use Rattle.art_attempt.specs.declared.attempts.Stage.TheVariants as stage
 use Rattle.art_attempt.specs.declared.rooms.Room.{Room}
 use Rattle.art_find.proofs.Stages.{still_reading}
 use Rattle.art_find.specs.declared.rereadings.Rereading.{Rereading}
-use Rattle.art_frame.proofs.Stocked.{stock_same}
+use Rattle.art_epoch.proofs.Stocked.{stock_same}
 use Rattle.art_make.specs.Apply as apply
 use Rattle.art_make.specs.Apply.{IsLocking, so_many}
 use Rattle.art_make.specs.declared.apply.Apply.{Apply}

@@ -1,7 +1,7 @@
 -- What the parts of an attempt ask for, and what each of them is told of the effects.
 use Rattle.std.proofs.Common.{◌≡◌, Option, Some, None, refl, subst}
 use Rattle.art_attempt.specs.Asking.{Answers, IsAllowed, MayAsk, given}
-use Rattle.art_gather.proofs.Asked.{IsSupply}
+use Rattle.art_attempt.proofs.Asked.{IsSupply}
 use Rattle.art_machine.proofs.AnswerKinds.{answers_any}
 use Rattle.art_machine.specs.Acting as acting
 use Rattle.art_machine.specs.Acting.{IsLook, IsPlain, steps_in, telling}

@@ -10,8 +10,8 @@ use Rattle.art_find.proofs.Keeping.{Grows}
 use Rattle.art_find.specs.Findings.{IsStanding}
 use Rattle.art_find.specs.declared.findings.Position.{Position}
 use Rattle.art_find.specs.declared.read_sets.ReadSet.{ReadSet}
-use Rattle.art_frame.specs.declared.stocks.Stock.{Stock}
-use Rattle.art_gather.specs.Reserve.{StayFound}
+use Rattle.art_epoch.specs.declared.stocks.Stock.{Stock}
+use Rattle.art_attempt.specs.Reserve.{StayFound}
 use Rattle.art_step.specs.Steps.Check as check
 use Rattle.art_step.specs.Views.{Member}
 use Rattle.art_step.specs.declared.deeds.Deed.{Deed}

@@ -1,12 +1,12 @@
 -- the crates below, for those above to name
 pub use Rattle.art_plan.proofs as ArtPlan
-pub use Rattle.art_frame.proofs as ArtFrame
-pub use Rattle.art_gather.proofs as ArtGather
+pub use Rattle.art_epoch.proofs as ArtEpoch
 pub use Rattle.art_make.proofs as ArtMake
 pub use Rattle.art_find.proofs as ArtFind
-pub mod Cells
-pub mod Commits
+pub mod Asked
+pub mod CaseCells
 pub mod Chosen
+pub mod Commits
 pub mod Counts
 pub mod Finds
 pub mod Free
@@ -15,11 +15,19 @@ mod Heard
 pub mod LastCheck
 pub mod Left
 pub mod Looks
+mod LowerBegins
+pub mod LowerNames
+pub mod LowerSeen
 pub mod Names
 pub mod Numbers
 pub mod Overlaps
 mod Rereads
+mod RereadsGoOn
+mod Spending
 pub mod Spent
 mod Stages
+pub mod Standing
 pub mod Steps
+pub mod Reserves
 pub mod Tries
+pub mod Validates

@@ -2,14 +2,14 @@
 use Rattle.std.proofs.Common.{◌≡◌, ◌<◌, ◌≤◌, ℕ, false, refl, arith}
 use Rattle.std.proofs.lemmas.Bool.{ne_eqb}
 use Rattle.art_make.specs.Apply.{is_begun}
-use Rattle.art_gather.specs.Naming as naming
-use Rattle.art_gather.specs.Validate.{failures_of}
-use Rattle.art_gather.specs.declared.naming.Named.TheVariants as named
-use Rattle.art_gather.specs.declared.naming.Naming.{Naming}
-use Rattle.art_gather.specs.declared.naming.Naming.TheVariants as names
-use Rattle.art_gather.specs.declared.validate.Validate.{Validate}
-use Rattle.art_gather.specs.declared.validate.Validate.TheVariants as checks
-use Rattle.art_gather.specs.declared.validate.Validated.TheVariants as validated
+use Rattle.art_attempt.specs.Naming as naming
+use Rattle.art_attempt.specs.Validate.{failures_of}
+use Rattle.art_attempt.specs.declared.naming.Named.TheVariants as named
+use Rattle.art_attempt.specs.declared.naming.Naming.{Naming}
+use Rattle.art_attempt.specs.declared.naming.Naming.TheVariants as names
+use Rattle.art_attempt.specs.declared.validate.Validate.{Validate}
+use Rattle.art_attempt.specs.declared.validate.Validate.TheVariants as checks
+use Rattle.art_attempt.specs.declared.validate.Validated.TheVariants as validated
 use Rattle.art_make.specs.Apply.{most_steps}
 use Rattle.art_make.specs.declared.apply.Apply.{Apply}
 use Rattle.art_make.specs.declared.apply.Apply.TheVariants.{Upgrading, Claiming, Filling, Writing, Committing, Releasing, ReleasingNode, GivingUp, Ended}

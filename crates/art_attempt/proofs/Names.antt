@@ -2,7 +2,7 @@
 use Rattle.std.proofs.Common.{◌≡◌, ◌<◌, ◌≤◌, ℕ, true, false, List, Option, Some, refl, ap, ◌∙◌, subst, arith, ⊎_elim}
 use Rattle.std.proofs.lemmas.Bool.{cases_Bool}
 use Rattle.std.proofs.lemmas.Option.{same_Some}
-use Rattle.art_attempt.proofs.Cells.{reading_so}
+use Rattle.art_attempt.proofs.CaseCells.{reading_so}
 use Rattle.art_attempt.proofs.Finds.{within_so}
 use Rattle.art_attempt.proofs.Looks.{no_fewer_named}
 use Rattle.art_attempt.specs.Attempts.{EndsSo, EndsWithin, IsNaming}
@@ -13,12 +13,12 @@ use Rattle.art_cell.specs.declared.cells.Node.{Node}
 use Rattle.art_find.specs.Descents.{IsReading}
 use Rattle.art_find.specs.declared.findings.Position.{Position}
 use Rattle.art_find.specs.declared.read_sets.ReadSet.{ReadSet}
-use Rattle.art_gather.proofs.Asked.{naming_asks_look}
-use Rattle.art_gather.specs.Naming as naming
-use Rattle.art_gather.specs.declared.naming.Named.{Named}
-use Rattle.art_gather.specs.declared.naming.Named.TheVariants.{Unchanged, Changed}
-use Rattle.art_gather.specs.declared.naming.Naming.{Naming}
-use Rattle.art_gather.specs.declared.naming.Naming.TheVariants as names
+use Rattle.art_attempt.proofs.Asked.{naming_asks_look}
+use Rattle.art_attempt.specs.Naming as naming
+use Rattle.art_attempt.specs.declared.naming.Named.{Named}
+use Rattle.art_attempt.specs.declared.naming.Named.TheVariants.{Unchanged, Changed}
+use Rattle.art_attempt.specs.declared.naming.Naming.{Naming}
+use Rattle.art_attempt.specs.declared.naming.Naming.TheVariants as names
 use Rattle.art_machine.proofs.Counting.{Counted, look_counts}
 use Rattle.art_machine.specs.Acting.{Answers, goes_on, telling}
 use Rattle.art_machine.specs.declared.actions.Action.{Action}

@@ -15,12 +15,12 @@ use Rattle.art_attempt.specs.declared.cases.Case.TheVariants.{NewLeaf, DropLeaf,
 use Rattle.art_attempt.specs.declared.rooms.Room.{Room}
 use Rattle.art_cell.specs.declared.layouts.Pool.{Pool}
 use Rattle.art_find.specs.Findings.{IsStanding}
-use Rattle.art_gather.specs.Reserve as reserve
-use Rattle.art_gather.specs.Reserve.{HasAll, HasNone}
-use Rattle.art_gather.specs.declared.reserve.Reserved.{Reserved}
-use Rattle.art_gather.specs.declared.reserve.Reserved.TheVariants.{Ready, Full}
-use Rattle.art_gather.specs.declared.reserve.Reserve.{Reserve}
-use Rattle.art_gather.specs.declared.reserve.Reserve.TheVariants as supplies
+use Rattle.art_attempt.specs.Reserve as reserve
+use Rattle.art_attempt.specs.Reserve.{HasAll, HasNone}
+use Rattle.art_attempt.specs.declared.reserve.Reserved.{Reserved}
+use Rattle.art_attempt.specs.declared.reserve.Reserved.TheVariants.{Ready, Full}
+use Rattle.art_attempt.specs.declared.reserve.Reserve.{Reserve}
+use Rattle.art_attempt.specs.declared.reserve.Reserve.TheVariants as supplies
 use Rattle.art_step.specs.declared.views.LastCheck.{LastCheck}
 use Rattle.art_step.specs.declared.views.Sizes.{Sizes}
 use Rattle.art_step.specs.declared.views.View.{View}

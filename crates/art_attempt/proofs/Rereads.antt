@@ -2,18 +2,18 @@
 use Rattle.std.proofs.Common.{◌≡◌, ◌≢◌, ◌<◌, ◌≤◌, ℕ, nat_lt, true, false, Some, None, ⊎_elim, ◌∙◌, sym, subst, arith}
 use Rattle.std.proofs.lemmas.Bool.{cases_Bool, ltb-true, ltb-false}
 use Rattle.art_find.proofs.Runs.{one_read}
-use Rattle.art_gather.proofs.Standing.{here_after}
-use Rattle.art_gather.proofs.Validates.{read_told}
-use Rattle.art_gather.proofs.Asked.{reads_look}
+use Rattle.art_attempt.proofs.Standing.{here_after}
+use Rattle.art_attempt.proofs.Validates.{read_told}
+use Rattle.art_attempt.proofs.Asked.{reads_look}
 use Rattle.art_attempt.proofs.Steps.{cell_later, cell_step}
 use Rattle.art_attempt.proofs.Tries.{later_then}
-use Rattle.art_gather.specs.Naming.{StillStands}
+use Rattle.art_attempt.specs.Naming.{StillStands}
 use Rattle.art_attempt.specs.Trying.{HasSpent, IsLater}
 use Rattle.art_attempt.specs.declared.rooms.Room.{Room}
 use Rattle.art_cell.specs.Reads.{word_read}
 use Rattle.art_cell.specs.declared.layouts.Layout.{Layout}
 use Rattle.art_attempt.proofs.Chosen.{loss_known}
-use Rattle.art_attempt.proofs.Cells.{reading_so}
+use Rattle.art_attempt.proofs.CaseCells.{reading_so}
 use Rattle.art_attempt.specs.Attempts.{EndsWithin, IsReadingOn, deed_at, reading_asks, reading_most}
 use Rattle.art_attempt.specs.Cases.{HasLeaf}
 use Rattle.art_attempt.specs.declared.attempts.Attempt.{Attempt}

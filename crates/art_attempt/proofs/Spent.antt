@@ -3,8 +3,8 @@ use Rattle.std.proofs.Common.{ℕ, ◌≤◌, ◌^◌, Option, Some, None, arith
 use Rattle.art_attempt.specs.Trying.{IsLimited}
 use Rattle.art_cell.specs.declared.layouts.Layout.{Layout}
 use Rattle.art_cell.specs.declared.layouts.Layout.TheVariants.{Node4, Node16, Node48, Node256}
-use Rattle.art_gather.specs.Reserve.{few_steps, node_looks}
-use Rattle.art_gather.specs.declared.reserve.Demand.{Demand}
+use Rattle.art_attempt.specs.Reserve.{few_steps, node_looks}
+use Rattle.art_attempt.specs.declared.reserve.Demand.{Demand}
 use Rattle.art_step.specs.WordPlaces.{free_words}
 use Rattle.art_step.specs.declared.views.Sizes.{Sizes}
 

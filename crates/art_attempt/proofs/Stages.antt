@@ -6,7 +6,7 @@ use Rattle.art_attempt.specs.declared.attempts.Attempt.{Attempt}
 use Rattle.art_attempt.specs.declared.attempts.Stage.{Stage}
 use Rattle.art_attempt.specs.declared.attempts.Stage.TheVariants as stage
 use Rattle.art_find.specs.declared.rereadings.Rereading.{Rereading}
-use Rattle.art_gather.specs.declared.validate.Validate.{Validate}
+use Rattle.art_attempt.specs.declared.validate.Validate.{Validate}
 use Rattle.art_step.specs.declared.views.Sizes.{Sizes}
 use Rattle.art_step.specs.declared.views.View.{View}
 

@@ -3,11 +3,11 @@ use Rattle.std.proofs.Common.{◌≡◌, ℕ, ◌++◌, List, Option, [], ◌∷
 use Rattle.art_attempt.specs.Trying.{IsLater, StillTries, WasChecked}
 use Rattle.art_epoch.specs.Taking.{OnlyTakes}
 use Rattle.art_find.specs.Descents.{IsReading}
-use Rattle.art_gather.specs.Validate.{CheckedSince}
-use Rattle.art_gather.specs.declared.validate.Cells.{Cells}
-use Rattle.art_frame.proofs.Stocked.{stock_same}
-use Rattle.art_frame.specs.Stocks.{HasStock}
-use Rattle.art_frame.specs.declared.stocks.Stock.{Stock}
+use Rattle.art_attempt.specs.Validate.{CheckedSince}
+use Rattle.art_attempt.specs.declared.validate.Cells.{Cells}
+use Rattle.art_epoch.proofs.Stocked.{stock_same}
+use Rattle.art_epoch.specs.Stocks.{HasStock}
+use Rattle.art_epoch.specs.declared.stocks.Stock.{Stock}
 use Rattle.art_make.specs.Apply.{HasFailed, IsCommitted}
 use Rattle.art_find.proofs.FoundPlaces.{standing_grows}
 use Rattle.art_find.proofs.Keeping.{Grows}

@@ -30,14 +30,14 @@ use Rattle.art_find.specs.declared.findings.Position.{Position}
 use Rattle.art_find.specs.declared.rereadings.Rereading.{Rereading}
 use Rattle.art_find.specs.declared.verdicts.Verdict.{Verdict}
 use Rattle.art_find.specs.declared.verdicts.Verdict.TheVariants as verdict
-use Rattle.art_frame.specs.Stocks.{HasStock}
-use Rattle.art_gather.specs.Naming as naming
-use Rattle.art_gather.specs.Naming.{StillStands}
-use Rattle.art_gather.specs.Reserve as reserve
-use Rattle.art_gather.specs.Reserve.{HasAll, HasNone}
-use Rattle.art_gather.specs.Validate as validate
-use Rattle.art_gather.specs.declared.naming.Naming.{Naming}
-use Rattle.art_gather.specs.declared.validate.Validate.{Validate}
+use Rattle.art_epoch.specs.Stocks.{HasStock}
+use Rattle.art_attempt.specs.Naming as naming
+use Rattle.art_attempt.specs.Naming.{StillStands}
+use Rattle.art_attempt.specs.Reserve as reserve
+use Rattle.art_attempt.specs.Reserve.{HasAll, HasNone}
+use Rattle.art_attempt.specs.Validate as validate
+use Rattle.art_attempt.specs.declared.naming.Naming.{Naming}
+use Rattle.art_attempt.specs.declared.validate.Validate.{Validate}
 use Rattle.art_machine.specs.Acting.{goes_on, passed}
 use Rattle.art_machine.specs.declared.actions.Action.{Action}
 use Rattle.art_machine.specs.declared.actions.Action.TheVariants.{Check, Settle}

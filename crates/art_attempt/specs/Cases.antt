@@ -13,12 +13,12 @@ use Rattle.art_find.specs.ReadSets.{node_of}
 use Rattle.art_find.specs.declared.findings.Position.{Position}
 use Rattle.art_find.specs.declared.read_sets.ReadSet.{ReadSet}
 use Rattle.art_find.specs.declared.verdicts.Verdict.{Verdict}
-use Rattle.art_frame.specs.Stocks.{node_in}
-use Rattle.art_frame.specs.declared.stocks.Stock.{Stock}
-use Rattle.art_gather.specs.Reserve.{HasNone}
-use Rattle.art_gather.specs.Naming.{KnowsHere}
-use Rattle.art_gather.specs.declared.validate.Cells.{Cells}
-use Rattle.art_gather.specs.declared.reserve.Demand.{Demand}
+use Rattle.art_epoch.specs.Stocks.{node_in}
+use Rattle.art_epoch.specs.declared.stocks.Stock.{Stock}
+use Rattle.art_attempt.specs.Reserve.{HasNone}
+use Rattle.art_attempt.specs.Naming.{KnowsHere}
+use Rattle.art_attempt.specs.declared.validate.Cells.{Cells}
+use Rattle.art_attempt.specs.declared.reserve.Demand.{Demand}
 use Rattle.art_machine.specs.declared.actions.Effects.{Effects}
 use Rattle.art_model.specs.declared.commands.Answer.TheVariants as reply
 use Rattle.art_plan.specs.Changes.{targets}

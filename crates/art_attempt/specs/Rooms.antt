@@ -2,8 +2,8 @@
 use Rattle.std.specs.Prelude.{ℕ, Option}
 use Rattle.std.specs.Option.{option_and_then, unwrap_or}
 use Rattle.art_cell.specs.declared.layouts.Layout.{Layout}
-use Rattle.art_frame.specs.Stocks.{node_in, without_all}
-use Rattle.art_frame.specs.declared.stocks.Stock.{Stock}
+use Rattle.art_epoch.specs.Stocks.{node_in, without_all}
+use Rattle.art_epoch.specs.declared.stocks.Stock.{Stock}
 use Rattle.art_make.specs.Apply.{linked}
 use Rattle.art_plan.specs.declared.changes.Change.{Change}
 

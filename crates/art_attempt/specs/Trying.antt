@@ -1,7 +1,7 @@
 -- What every attempt knows of the view: nothing is told, nothing is held, and few steps were made.
 use Rattle.std.specs.Prelude.{◌≡◌, ◌≢◌, ℕ, ◌<◌, ◌≤◌, ◌^◌, List, [], length, get_or}
 use Rattle.art_epoch.specs.Taking.{MadeFew}
-use Rattle.art_gather.specs.Validate.{FoundAt}
+use Rattle.art_attempt.specs.Validate.{FoundAt}
 use Rattle.art_find.specs.Findings.{IsStanding}
 use Rattle.art_find.specs.declared.read_sets.ReadSet.{ReadSet}
 use Rattle.art_find.specs.declared.findings.Position.{Position}

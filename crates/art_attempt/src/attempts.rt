@@ -4,16 +4,15 @@ ghost use Rattle.art_attempt.specs.Asking.{Answers};
 ghost use Rattle.art_attempt.specs.Attempts.{Fits, IsOverlapBy, IsRestartBy, IsRoom, IsSameTry, asks, deed_at, ended_at, found_at, free_at, is_free, nowhere, steps_left};
 ghost use Rattle.art_attempt.specs.Trying.{StillTries};
 ghost use Rattle.art_attempt.specs.declared.attempts.Ending.TheVariants.{Restart as anew, Overlaps as overlaps};
-ghost use Rattle.art_frame.specs.Stocks.{HasStock};
+ghost use Rattle.art_epoch.specs.Stocks.{HasStock};
 ghost use Rattle.art_machine.specs.Acting.{steps_in};
 ghost use Rattle.art_machine.specs.declared.actions.Action.{Action as ActionOf};
 ghost use Rattle.art_step.specs.declared.views.Sizes.{Sizes};
 ghost use Rattle.art_step.specs.declared.views.View.{View};
 
-use crate::{Case, Room};
+use crate::{Case, Naming, Reserve, Reserved, Room, Validate};
 use art_cell::{Cell, Node, Pool};
 use art_find::{Finding, Position, Rereading, Verdict};
-use art_gather::{Naming, Reserve, Reserved, Validate};
 use art_machine::{Action, Answer};
 use art_make::Apply;
 use art_step::{EpochSteps, Stamp};

@@ -2,9 +2,9 @@
 ghost use Rattle.std.specs.Prelude.{◌≡◌};
 ghost use Rattle.art_attempt.specs.Cases.{cells_of, demand_of};
 
+use crate::{Cells, Demand};
 use art_cell::Layout;
 use art_find::Verdict;
-use art_gather::{Cells, Demand};
 use art_plan::{Lower, needed};
 use art_step::Sizes;
 

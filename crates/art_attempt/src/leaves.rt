@@ -9,9 +9,9 @@ ghost use Rattle.art_attempt.specs.declared.attempts.Stage.TheVariants as stages
 ghost use Rattle.art_cell.specs.declared.cells.Link.TheVariants.{Node as node_link};
 ghost use Rattle.art_cell.specs.declared.cells.Node.{Node as NodeOf};
 ghost use Rattle.art_find.specs.Findings.{IsStanding};
-ghost use Rattle.art_gather.specs.Naming.{KnowsHere, ended_at as named_at};
-ghost use Rattle.art_gather.specs.declared.naming.Named.TheVariants.{Changed as changed_name};
-ghost use Rattle.art_gather.specs.declared.naming.Naming.{Naming as NamingOf};
+ghost use Rattle.art_attempt.specs.Naming.{KnowsHere, ended_at as named_at};
+ghost use Rattle.art_attempt.specs.declared.naming.Named.TheVariants.{Changed as changed_name};
+ghost use Rattle.art_attempt.specs.declared.naming.Naming.{Naming as NamingOf};
 ghost use Rattle.art_machine.specs.Acting.{Answers as ActionAnswers, goes_on, telling};
 ghost use Rattle.art_machine.specs.declared.actions.Action.{Action as ActionOf};
 ghost use Rattle.art_plan.specs.ChooseRemove.Losses.{loss_at};
@@ -21,10 +21,9 @@ ghost use Rattle.art_step.specs.Views.{size_of};
 ghost use Rattle.art_step.specs.declared.views.Sizes.{Sizes};
 ghost use Rattle.art_step.specs.declared.views.View.{View};
 
-use crate::{Attempt, Case, Ending, Room, Stage};
+use crate::{Attempt, Case, Ending, Named, Naming, Room, Stage};
 use art_cell::{Link, Node};
 use art_find::{ReadSet, Rereading, look};
-use art_gather::{Named, Naming};
 use art_machine::{Action, Answer};
 use art_plan::{Loss, Lower, lost, other_child};
 use art_step::EpochSteps;

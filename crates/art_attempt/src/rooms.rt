@@ -3,13 +3,13 @@ ghost use Rattle.std.specs.Prelude.{◌≡◌, ◌≤◌, Some, length};
 ghost use Rattle.art_attempt.specs.Rooms.{number_for, spent_by};
 ghost use Rattle.art_attempt.specs.Trying.{IsKey};
 ghost use Rattle.art_plan.specs.Changes.{leaf_linked, node_made};
-ghost use Rattle.art_frame.specs.Stocks.{AreIn, first_hints, nothing};
+ghost use Rattle.art_epoch.specs.Stocks.{AreIn, first_hints, nothing};
 ghost use Rattle.art_make.specs.Apply.{linked};
 
 use arrayvec::ArrayVec;
 use art_cell::{Body, Layout, Reads, Writes};
+use art_epoch::Stock;
 use art_find::ReadSet;
-use art_frame::Stock;
 use art_key::{Bound, Key};
 use art_machine::Effects;
 use art_plan::{Bodies, Change, NewLeaf, OldLeaf};

@@ -6,19 +6,18 @@ ghost use Rattle.art_attempt.specs.Cases.{IsCaseOf, cells_of};
 ghost use Rattle.art_attempt.specs.declared.attempts.Ending.TheVariants.{Restart as anew, Overlaps as overlaps};
 ghost use Rattle.art_attempt.specs.declared.attempts.Stage.TheVariants as stages;
 ghost use Rattle.art_find.specs.Findings.{IsStanding};
-ghost use Rattle.art_gather.specs.Reserve.{ended_at as reserved_at};
-ghost use Rattle.art_gather.specs.Validate.{BelowFits, ended_at as validated_at};
-ghost use Rattle.art_gather.specs.declared.reserve.Reserved.TheVariants.{Full as full};
-ghost use Rattle.art_gather.specs.declared.validate.Validated.TheVariants.{Changed as changed_cell};
+ghost use Rattle.art_attempt.specs.Reserve.{ended_at as reserved_at};
+ghost use Rattle.art_attempt.specs.Validate.{BelowFits, ended_at as validated_at};
+ghost use Rattle.art_attempt.specs.declared.reserve.Reserved.TheVariants.{Full as full};
+ghost use Rattle.art_attempt.specs.declared.validate.Validated.TheVariants.{Changed as changed_cell};
 ghost use Rattle.art_machine.specs.Acting.{Answers as ActionAnswers, goes_on, telling};
 ghost use Rattle.art_machine.specs.Turns.{Spends};
 ghost use Rattle.art_machine.specs.declared.actions.Action.{Action as ActionOf};
 ghost use Rattle.art_step.specs.declared.views.Sizes.{Sizes};
 ghost use Rattle.art_step.specs.declared.views.View.{View};
 
-use crate::{Attempt, Case, Ending, Job, Room, Stage};
+use crate::{Attempt, Case, Ending, Job, Reserve, Reserved, Room, Stage, Validate, Validated};
 use art_cell::Pool;
-use art_gather::{Reserve, Reserved, Validate, Validated};
 use art_machine::{Action, Answer};
 use art_step::EpochSteps;
 

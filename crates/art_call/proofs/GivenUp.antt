@@ -14,22 +14,22 @@ use Rattle.art_change.specs.declared.writes.Write.{Write}
 use Rattle.art_epoch.specs.Limbo.{places_of}
 use Rattle.art_epoch.specs.declared.limbo.Place.{Place}
 use Rattle.art_key.specs.declared.bounds.Bound.{Bound}
-use Rattle.art_seek.specs.ArtLook.declared.path_buffers.PathBuffer.{PathBuffer}
-use Rattle.art_seek.proofs.GivenUp.{busy_is_free}
-use Rattle.art_seek.specs.Seeks as seeks
-use Rattle.art_seek.specs.Walks.{aim_of}
-use Rattle.art_seek.specs.declared.seeks.Seek.{Seek}
-use Rattle.art_seek.specs.declared.seeks.SeekStage.{SeekStage}
-use Rattle.art_seek.specs.declared.seeks.SeekStage.TheVariants as seek_stage
+use Rattle.art_look.specs.declared.path_buffers.PathBuffer.{PathBuffer}
+use Rattle.art_look.proofs.GivenUp.{busy_is_free}
+use Rattle.art_look.specs.Seeks as seeks
+use Rattle.art_look.specs.Walks.{aim_of}
+use Rattle.art_look.specs.declared.seeks.Seek.{Seek}
+use Rattle.art_look.specs.declared.seeks.SeekStage.{SeekStage}
+use Rattle.art_look.specs.declared.seeks.SeekStage.TheVariants as seek_stage
 use Rattle.art_step.specs.declared.views.Sizes.{Sizes}
 use Rattle.art_step.specs.declared.views.View.{View}
 
 -- ---- the turns that were used are no more than those that there were
 
 write_used : (s : Stage) (m : Write) → writes.turns_used_at s m ≤ m.turns
-write_used stage.Opening m = omega arith
+write_used stage.Enter m = omega arith
 write_used stage.Trying m = omega arith
-write_used stage.Closing m = omega arith
+write_used stage.Exit m = omega arith
 write_used stage.Ended m = omega arith
 
 seek_used : (s : SeekStage) (m : Seek) → seeks.turns_used_at s m ≤ m.turns

@@ -12,22 +12,22 @@ use Rattle.art_change.specs.Writes.{UsedTurns}
 use Rattle.art_epoch.specs.Limbo.{places_of}
 use Rattle.art_key.specs.Bounds.{is_before}
 use Rattle.art_key.specs.declared.bounds.Bound.{Bound}
-use Rattle.art_seek.proofs.ArtLook.Driven.{sees_after, sees_within}
-use Rattle.art_seek.specs.ArtLook.Driven.{LookEnds}
-use Rattle.art_seek.specs.ArtLook.Seen.{bound_at, look_done}
-use Rattle.art_seek.specs.ArtLook.declared.looks.Seen.{Seen as SeenOf}
-use Rattle.art_seek.specs.ArtLook.declared.path_buffers.PathBuffer.{PathBuffer}
-use Rattle.art_seek.proofs.Answered.{ended_closed, ended_end, ended_sought, look_ends, look_told, seen_busy}
-use Rattle.art_seek.proofs.Ends.{key_not_seen, range_not_absent, range_not_found}
-use Rattle.art_seek.specs.Seeks as seeks
-use Rattle.art_seek.specs.Seeks.{Fits, HasSought, seen_by}
-use Rattle.art_seek.specs.Walks.{IsEnd, aim_of, told_of}
-use Rattle.art_seek.specs.declared.seeks.Seek.{Seek}
-use Rattle.art_seek.specs.declared.walks.Aim.TheVariants as aim
-use Rattle.art_seek.specs.declared.walks.Outcome.{Outcome}
-use Rattle.art_seek.specs.declared.walks.Outcome.TheVariants.{Found, Absent, Seen, Busy}
-use Rattle.art_seek.specs.declared.walks.Walk.{Walk}
-use Rattle.art_seek.specs.declared.walks.Walk.TheVariants.{Key, Range}
+use Rattle.art_look.proofs.Driven.{sees_after, sees_within}
+use Rattle.art_look.specs.Driven.{LookEnds}
+use Rattle.art_look.specs.Seen.{bound_at, look_done}
+use Rattle.art_look.specs.declared.looks.Seen.{Seen as SeenOf}
+use Rattle.art_look.specs.declared.path_buffers.PathBuffer.{PathBuffer}
+use Rattle.art_look.proofs.Answered.{ended_closed, ended_end, ended_sought, look_ends, look_told, seen_busy}
+use Rattle.art_look.proofs.SeekEnds.{key_not_seen, range_not_absent, range_not_found}
+use Rattle.art_look.specs.Seeks as seeks
+use Rattle.art_look.specs.Seeks.{Fits, HasSought, seen_by}
+use Rattle.art_look.specs.Walks.{IsEnd, aim_of, told_of}
+use Rattle.art_look.specs.declared.seeks.Seek.{Seek}
+use Rattle.art_look.specs.declared.walks.Aim.TheVariants as aim
+use Rattle.art_look.specs.declared.walks.Outcome.{Outcome}
+use Rattle.art_look.specs.declared.walks.Outcome.TheVariants.{Found, Absent, Seen, Busy}
+use Rattle.art_look.specs.declared.walks.Walk.{Walk}
+use Rattle.art_look.specs.declared.walks.Walk.TheVariants.{Key, Range}
 use Rattle.art_step.specs.Events.{SeesEvent}
 use Rattle.art_step.specs.declared.views.Sizes.{Sizes}
 use Rattle.art_step.specs.declared.views.View.{View}

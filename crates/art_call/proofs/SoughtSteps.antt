@@ -11,10 +11,10 @@ use Rattle.art_machine.specs.declared.actions.Action.{Action}
 use Rattle.art_machine.specs.declared.actions.Action.TheVariants.{Begin, Read, ReadLeaf, Check, Settle, Upgrade, Claim, Write, WriteLeaf, Commit, Release}
 use Rattle.art_machine.specs.declared.actions.Action.TheVariants.{ClearBit, GiveBack, Free, ReadEpoch, StorePin, RaiseEpoch, ReadPin}
 use Rattle.art_machine.specs.declared.actions.Answer.{Answer}
-use Rattle.art_seek.proofs.Told.{look_sees}
-use Rattle.art_seek.specs.Asking.{MaySeek, stepped_by, told_by, walked}
-use Rattle.art_seek.specs.declared.driver.Stepped.{Stepped}
-use Rattle.art_seek.specs.declared.driver.Stepped.TheVariants as stepped
+use Rattle.art_look.proofs.Told.{look_sees}
+use Rattle.art_look.specs.Asking.{MaySeek, stepped_by, told_by, walked}
+use Rattle.art_look.specs.declared.driver.Stepped.{Stepped}
+use Rattle.art_look.specs.declared.driver.Stepped.TheVariants as stepped
 use Rattle.art_step.specs.Events.{SeesEvent}
 use Rattle.art_step.specs.declared.deeds.Deed.{Deed}
 use Rattle.art_step.specs.declared.views.Sizes.{Sizes}

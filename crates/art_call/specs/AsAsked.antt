@@ -13,10 +13,10 @@ use Rattle.art_key.specs.declared.bounds.Bound.{Bound}
 use Rattle.art_machine.specs.Acting.{Answers, telling}
 use Rattle.art_machine.specs.declared.actions.Action.{Action}
 use Rattle.art_machine.specs.declared.actions.Answer.{Answer}
-use Rattle.art_seek.specs.ArtLook.declared.path_buffers.PathBuffer.{PathBuffer}
-use Rattle.art_seek.specs.Seeks as seeks
-use Rattle.art_seek.specs.Walks.{deed_at}
-use Rattle.art_seek.specs.declared.seeks.Seek.{Seek}
+use Rattle.art_look.specs.declared.path_buffers.PathBuffer.{PathBuffer}
+use Rattle.art_look.specs.Seeks as seeks
+use Rattle.art_look.specs.Walks.{deed_at}
+use Rattle.art_look.specs.declared.seeks.Seek.{Seek}
 use Rattle.art_step.specs.declared.views.Sizes.{Sizes}
 use Rattle.art_step.specs.declared.views.View.{View}
 

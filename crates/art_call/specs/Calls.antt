@@ -18,20 +18,20 @@ use Rattle.art_change.specs.declared.writes.Write.{Write}
 use Rattle.art_epoch.specs.Limbo.{places_of}
 use Rattle.art_epoch.specs.declared.limbo.Place.{Place}
 use Rattle.art_change.specs.ArtFind.Driven.{get_done}
-use Rattle.art_frame.specs.declared.stocks.Stock.{Stock}
+use Rattle.art_epoch.specs.declared.stocks.Stock.{Stock}
 use Rattle.art_key.specs.Bounds.{is_before}
 use Rattle.art_key.specs.declared.bounds.Bound.{Bound}
-use Rattle.art_seek.specs.ArtLook.Driven.{IsSeen}
-use Rattle.art_seek.specs.ArtLook.Seen.{bound_at, look_done}
-use Rattle.art_seek.specs.ArtLook.declared.looks.Seen.{Seen}
+use Rattle.art_look.specs.Driven.{IsSeen}
+use Rattle.art_look.specs.Seen.{bound_at, look_done}
+use Rattle.art_look.specs.declared.looks.Seen.{Seen}
 use Rattle.art_model.specs.declared.commands.Answer.TheVariants as reply
-use Rattle.art_seek.specs.Seeks as seeks
-use Rattle.art_seek.specs.Seeks.{WillBeBusy}
-use Rattle.art_seek.specs.Sought.{HasSpent}
-use Rattle.art_seek.specs.Walks.{aim_of}
-use Rattle.art_seek.specs.declared.seeks.Seek.{Seek}
-use Rattle.art_seek.specs.declared.walks.Aim.{Aim}
-use Rattle.art_seek.specs.declared.walks.Aim.TheVariants as aim
+use Rattle.art_look.specs.Seeks as seeks
+use Rattle.art_look.specs.Seeks.{WillBeBusy}
+use Rattle.art_look.specs.Sought.{HasSpent}
+use Rattle.art_look.specs.Walks.{aim_of}
+use Rattle.art_look.specs.declared.seeks.Seek.{Seek}
+use Rattle.art_look.specs.declared.walks.Aim.{Aim}
+use Rattle.art_look.specs.declared.walks.Aim.TheVariants as aim
 use Rattle.art_step.specs.Deeds.{bound_of}
 use Rattle.art_step.specs.Events.{SeesEvent}
 use Rattle.art_step.specs.Histories.{AreApart}

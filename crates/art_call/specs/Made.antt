@@ -6,8 +6,8 @@ use Rattle.art_machine.specs.declared.actions.Action.{Action}
 use Rattle.art_machine.specs.declared.actions.Action.TheVariants.{Settle, Commit}
 use Rattle.art_machine.specs.declared.actions.Answer.{Answer}
 use Rattle.art_machine.specs.declared.actions.Answer.TheVariants.{Checked}
-use Rattle.art_seek.specs.declared.driver.Stepped.{Stepped}
-use Rattle.art_seek.specs.declared.driver.Stepped.TheVariants as stepped
+use Rattle.art_look.specs.declared.driver.Stepped.{Stepped}
+use Rattle.art_look.specs.declared.driver.Stepped.TheVariants as stepped
 use Rattle.art_step.specs.Events.{MakesEvent, SeesEvent}
 use Rattle.art_step.specs.declared.deeds.Deed.{Deed}
 use Rattle.art_step.specs.declared.views.Sizes.{Sizes}

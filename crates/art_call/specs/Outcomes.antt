@@ -4,9 +4,9 @@ use Rattle.art_call.specs.declared.outcomes.Outcome.{Outcome}
 use Rattle.art_call.specs.declared.outcomes.Outcome.TheVariants as outcome
 use Rattle.art_change.specs.declared.writes.Outcome.{Outcome as WriteOutcome}
 use Rattle.art_change.specs.declared.writes.Outcome.TheVariants as write
-use Rattle.art_seek.specs.ArtLook.declared.looks.Seen.{Seen}
-use Rattle.art_seek.specs.declared.walks.Outcome.{Outcome as SeekOutcome}
-use Rattle.art_seek.specs.declared.walks.Outcome.TheVariants as seek
+use Rattle.art_look.specs.declared.looks.Seen.{Seen}
+use Rattle.art_look.specs.declared.walks.Outcome.{Outcome as SeekOutcome}
+use Rattle.art_look.specs.declared.walks.Outcome.TheVariants as seek
 
 abbrev pub of_write : WriteOutcome → Outcome
 of_write write.New = outcome.New

@@ -6,7 +6,7 @@ ghost use Rattle.art_call.specs.declared.outcomes.Outcome.TheVariants.{Overlaps 
 ghost use Rattle.art_change.specs.Writes.{HoldsOrTold, IsFresh};
 ghost use Rattle.art_epoch.specs.Limbo.{places_of};
 ghost use Rattle.art_key.specs.Bounds.{is_before};
-ghost use Rattle.art_seek.specs.ArtLook.Seen.{bound_at};
+ghost use Rattle.art_look.specs.Seen.{bound_at};
 ghost use Rattle.art_step.specs.declared.views.Sizes.{Sizes as SizesOf};
 ghost use Rattle.art_step.specs.declared.views.View.{View};
 ghost use Rattle.art_tree.specs.declared.bounds.Bound.TheVariants.{To as to_text};
@@ -17,8 +17,7 @@ use art_change::art_attempt::Room;
 use art_change::{Job, Write};
 use art_epoch::Limbo;
 use art_key::{Bound, Key};
-use art_seek::art_look::PathBuffer;
-use art_seek::{Aim, Seek};
+use art_look::{Aim, PathBuffer, Seek};
 use art_step::Sizes;
 
 /// The machine of a call.

@@ -6,7 +6,7 @@ ghost use Rattle.art_change.specs.ArtAttempt.Attempts.{IsRoom};
 ghost use Rattle.art_change.specs.ArtAttempt.declared.attempts.Job.TheVariants.{Remove as removal};
 ghost use Rattle.art_change.specs.declared.writes.Outcome.TheVariants.{Overlaps as overlaps};
 ghost use Rattle.art_key.specs.Bounds.{is_before};
-ghost use Rattle.art_seek.specs.ArtLook.Seen.{bound_at};
+ghost use Rattle.art_look.specs.Seen.{bound_at};
 ghost use Rattle.art_step.specs.Histories.{AreApart};
 ghost use Rattle.art_step.specs.declared.views.View.{View};
 ghost use Rattle.art_tree.specs.declared.bounds.Bound.TheVariants.{To as to_text};
@@ -15,8 +15,7 @@ use crate::Caller;
 use crate::callers::Call;
 use art_change::{Job, Outcome as WriteOutcome, Write, finish as finish_write};
 use art_key::{Bound, Key};
-use art_seek::art_look::Seen;
-use art_seek::{Aim, Outcome as SeekOutcome, Seek, finish as finish_seek};
+use art_look::{Aim, Outcome as SeekOutcome, Seek, Seen, finish as finish_seek};
 use art_step::EpochSteps;
 
 impl Caller {

@@ -14,10 +14,10 @@ ghost use Rattle.art_epoch.specs.declared.limbo.Place.{Place};
 ghost use Rattle.art_change.specs.ArtPlan.declared.changes.Change.{Change};
 ghost use Rattle.art_machine.specs.Acting.{Answers, telling};
 ghost use Rattle.art_machine.specs.declared.actions.Answer.{Answer as AnswerOf};
-ghost use Rattle.art_seek.specs.ArtLook.declared.path_buffers.PathBuffer.{PathBuffer as PathBufferOf};
-ghost use Rattle.art_seek.specs.Asking.{MaySeek, stepped_by};
-ghost use Rattle.art_seek.specs.Walks.{Settles};
-ghost use Rattle.art_seek.specs.declared.walks.Walk.{Walk as WalkOf};
+ghost use Rattle.art_look.specs.declared.path_buffers.PathBuffer.{PathBuffer as PathBufferOf};
+ghost use Rattle.art_look.specs.Asking.{MaySeek, stepped_by};
+ghost use Rattle.art_look.specs.Walks.{Settles};
+ghost use Rattle.art_look.specs.declared.walks.Walk.{Walk as WalkOf};
 ghost use Rattle.art_step.specs.Histories.{AreApart};
 ghost use Rattle.art_step.specs.declared.deeds.Deed.{Deed};
 ghost use Rattle.art_step.specs.declared.views.Sizes.{Sizes};
@@ -28,8 +28,8 @@ use crate::{Caller, Outcome};
 use art_change::art_attempt::Room;
 use art_change::{Write, finish as finish_write, step as step_write};
 use art_epoch::Limbo;
+use art_look::{Stepped as Sought, finish as finish_seek, step as step_seek};
 use art_machine::{Action, Answer};
-use art_seek::{Stepped as Sought, finish as finish_seek, step as step_seek};
 use art_step::{EpochSteps, StepKind};
 
 /// A step that was made: of which kind it was, and whether it made the event of its call.
@@ -73,7 +73,7 @@ fn is_told(stepped: Sought) -> bool
 }
 
 /// The step that a seek made.
-fn made_by_seek(made: art_seek::Made) -> Made
+fn made_by_seek(made: art_look::Made) -> Made
     ensures { (z : Sizes) (d : Deed) (walk : WalkOf) (k : List ℕ) (t : PathBufferOf) (answer : AnswerOf) (v w : View) →
         made.stepped ≡ stepped_by made.action answer → MaySeek z (Settles walk k t) v made.action →
         Answers z (telling d) made.action answer v w → w.steps ≡ v.steps + 1 → MakesStep z v w result }

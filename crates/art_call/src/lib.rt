@@ -15,7 +15,7 @@
 //! ```
 //!
 //! A call is begun (`insert`, `remove`, `get`, `look`), which makes no step. Then it is stepped, on whatever carrier the pass stands
-//! (`step`), or run to its end (`run`). Writes are the machine of `art_change`, reads that of `art_seek`; a call has the one or the
+//! (`step`), or run to its end (`run`). Writes are the machine of `art_change`, reads that of `art_look`; a call has the one or the
 //! other, and there is no second way.
 //!
 //! # One step at a time

@@ -3,8 +3,8 @@ ghost use Rattle.std.specs.Prelude.{◌≡◌, ℕ, IfSome, Option};
 ghost use Rattle.art_call.specs.Outcomes.{of_seek, of_write};
 
 use art_cell::{Cell, Pool};
-use art_frame::Blocker;
-use art_seek::art_look::Seen;
+use art_epoch::Blocker;
+use art_look::Seen;
 
 /// How a call ended.
 #[derive(Debug, PartialEq, Eq, Drop)]
@@ -51,13 +51,13 @@ pub(crate) fn of_write(outcome: art_change::Outcome) -> Outcome
 }
 
 /// How a call ends by how its seek did, and what that has seen.
-pub(crate) fn of_seek(outcome: art_seek::Outcome, seen: Option<Seen>) -> Outcome
+pub(crate) fn of_seek(outcome: art_look::Outcome, seen: Option<Seen>) -> Outcome
     ensures { result ≡ of_seek outcome seen }
 {
     match (outcome, seen) {
-        (art_seek::Outcome::Found(value), _) => Outcome::Found(value),
-        (art_seek::Outcome::Absent, _) => Outcome::Absent,
-        (art_seek::Outcome::Seen, Some(seen)) => Outcome::Seen(seen),
+        (art_look::Outcome::Found(value), _) => Outcome::Found(value),
+        (art_look::Outcome::Absent, _) => Outcome::Absent,
+        (art_look::Outcome::Seen, Some(seen)) => Outcome::Seen(seen),
         _ => Outcome::Busy,
     }
 }

@@ -2,14 +2,14 @@
 use Rattle.std.proofs.Common.{◌≡◌, ℕ, ◌++◌, true, List, [], ◌∷◌, length, Option, Some, None, sym, ap, ap₂, ◌∙◌, subst}
 use Rattle.art_change.proofs.Endings.{IsLeft, left_by, left_since}
 use Rattle.art_attempt.specs.declared.rooms.Room.{Room}
-use Rattle.art_change.specs.Writes.{HasAnswered, IsClosing, IsDone, gone_by, told_by}
+use Rattle.art_change.specs.Writes.{HasAnswered, IsExiting, IsDone, gone_by, told_by}
 use Rattle.art_change.specs.declared.writes.Write.{Write}
 use Rattle.art_change.specs.declared.writes.Outcome.{Outcome}
 use Rattle.art_change.specs.declared.writes.Outcome.TheVariants.{New, Present, Gone, Absent, Full, Exhausted, Overlaps, Busy, Crowded}
 use Rattle.art_epoch.specs.declared.limbo.Place.{Place}
-use Rattle.art_frame.specs.Closings.{ClosingFits, IsClosed, is_ended}
-use Rattle.art_frame.specs.declared.closings.Closing.{Closing}
-use Rattle.art_frame.specs.declared.closings.Closing.TheVariants as closing
+use Rattle.art_epoch.specs.Exit.{ExitFits, IsClosed, is_ended}
+use Rattle.art_epoch.specs.declared.exit.Exit.{Exit}
+use Rattle.art_epoch.specs.declared.exit.Exit.TheVariants as exit
 use Rattle.art_step.specs.Events.{MakesEvent, SeesEvent}
 use Rattle.art_step.specs.Histories.{IsLegal, event, places}
 use Rattle.art_step.specs.Tokens.{links_of}
@@ -19,11 +19,11 @@ use Rattle.art_step.specs.declared.views.Sizes.{Sizes}
 use Rattle.art_step.specs.declared.views.View.{View}
 
 -- the close has ended
-pub closed_at : (z : Sizes) (k : List ℕ) (value : ℕ) (u v : View) (ps qs : List Place) (m : Write) (r : Room) (c : Closing) → is_ended c ≡ true
-    → ClosingFits z k value u ps (links_of (gone_by m.outcome r.change)) c qs r.stock v → IsClosed z u v ps qs (links_of (gone_by m.outcome r.change))
-closed_at z k value u v ps qs m r closing.Ended is fits = fits.0
-closed_at z k value u v ps qs m r closing.Labelling is fits = cc
-closed_at z k value u v ps qs m r closing.Giving is fits = cc
+pub closed_at : (z : Sizes) (k : List ℕ) (value : ℕ) (u v : View) (ps qs : List Place) (m : Write) (r : Room) (c : Exit) → is_ended c ≡ true
+    → ExitFits z k value u ps (links_of (gone_by m.outcome r.change)) c qs r.stock v → IsClosed z u v ps qs (links_of (gone_by m.outcome r.change))
+closed_at z k value u v ps qs m r exit.Ended is fits = fits.0
+closed_at z k value u v ps qs m r exit.Labelling is fits = cc
+closed_at z k value u v ps qs m r exit.Giving is fits = cc
 
 -- the frame tells nothing
 module _ (u opened ended v : View) (seen : opened.seen ≡ u.seen) (own : opened.own ≡ u.own) (pass : opened.pass ≡ u.pass) (seen' : v.seen ≡ ended.seen) (own' : v.own ≡ ended.own) where
@@ -45,14 +45,14 @@ module _ (u opened ended v : View) (seen : opened.seen ≡ u.seen) (own : opened
 
 module _ (z : Sizes) (u : View) (ps : List Place) (m : Write) (r : Room) (qs : List Place) (v : View) where
   -- what its attempts left since the pass was pinned
-  pub left_opened : (k : IsClosing z u ps m r qs v) → IsLeft z k.opened m.job (record r { stock = k.stock }) m.outcome k.ended
+  pub left_opened : (k : IsExiting z u ps m r qs v) → IsLeft z k.opened m.job (record r { stock = k.stock }) m.outcome k.ended
   left_opened k =
       left_since z k.opened k.began k.begun.base m.job (record r { stock = k.stock }) m.outcome k.ended
       (left_by z k.began (record r { stock = k.stock }) k.ended m.job m.attempt m.outcome m.left k.outcome)
 
-  closing_answers : IsClosing z u ps m r qs v → is_ended m.closing ≡ true → HasAnswered z u m.job m.outcome r.row.key r.row.value qs v
-  closing_answers k is =
-      let closed = closed_at z r.row.key.items r.row.value k.ended v k.waiting qs m r m.closing is k.fits in
+  exit_answers : IsExiting z u ps m r qs v → is_ended m.exit ≡ true → HasAnswered z u m.job m.outcome r.row.key r.row.value qs v
+  exit_answers k is =
+      let closed = closed_at z r.row.key.items r.row.value k.ended v k.waiting qs m r m.exit is k.fits in
       record {
         idle = ap (λ (t : View). t.pin) closed.is;
         free = closed.free;
@@ -69,11 +69,11 @@ module _ (z : Sizes) (u : View) (ps : List Place) (m : Write) (r : Room) (qs : L
     limbo = done.0.limbo;
     tells = (ap (λ (t : View). t.seen) done.0.only, ap (λ (t : View). t.own) done.0.only);
   }
-  answered New is done = subst (λ (o : Outcome). HasAnswered z u m.job o r.row.key r.row.value qs v) is (closing_answers done.0 done.1)
-  answered (Present stands) is done = subst (λ (o : Outcome). HasAnswered z u m.job o r.row.key r.row.value qs v) is (closing_answers done.0 done.1)
-  answered (Gone value) is done = subst (λ (o : Outcome). HasAnswered z u m.job o r.row.key r.row.value qs v) is (closing_answers done.0 done.1)
-  answered Absent is done = subst (λ (o : Outcome). HasAnswered z u m.job o r.row.key r.row.value qs v) is (closing_answers done.0 done.1)
-  answered (Full pool) is done = subst (λ (o : Outcome). HasAnswered z u m.job o r.row.key r.row.value qs v) is (closing_answers done.0 done.1)
-  answered (Exhausted c) is done = subst (λ (o : Outcome). HasAnswered z u m.job o r.row.key r.row.value qs v) is (closing_answers done.0 done.1)
-  answered Overlaps is done = subst (λ (o : Outcome). HasAnswered z u m.job o r.row.key r.row.value qs v) is (closing_answers done.0 done.1)
-  answered Busy is done = subst (λ (o : Outcome). HasAnswered z u m.job o r.row.key r.row.value qs v) is (closing_answers done.0 done.1)
+  answered New is done = subst (λ (o : Outcome). HasAnswered z u m.job o r.row.key r.row.value qs v) is (exit_answers done.0 done.1)
+  answered (Present stands) is done = subst (λ (o : Outcome). HasAnswered z u m.job o r.row.key r.row.value qs v) is (exit_answers done.0 done.1)
+  answered (Gone value) is done = subst (λ (o : Outcome). HasAnswered z u m.job o r.row.key r.row.value qs v) is (exit_answers done.0 done.1)
+  answered Absent is done = subst (λ (o : Outcome). HasAnswered z u m.job o r.row.key r.row.value qs v) is (exit_answers done.0 done.1)
+  answered (Full pool) is done = subst (λ (o : Outcome). HasAnswered z u m.job o r.row.key r.row.value qs v) is (exit_answers done.0 done.1)
+  answered (Exhausted c) is done = subst (λ (o : Outcome). HasAnswered z u m.job o r.row.key r.row.value qs v) is (exit_answers done.0 done.1)
+  answered Overlaps is done = subst (λ (o : Outcome). HasAnswered z u m.job o r.row.key r.row.value qs v) is (exit_answers done.0 done.1)
+  answered Busy is done = subst (λ (o : Outcome). HasAnswered z u m.job o r.row.key r.row.value qs v) is (exit_answers done.0 done.1)

@@ -5,15 +5,15 @@ use Rattle.art_attempt.proofs.LastCheck.{full_stays, overlap_stays}
 use Rattle.art_attempt.specs.declared.attempts.Attempt.{Attempt}
 use Rattle.art_attempt.specs.declared.rooms.Room.{Room}
 use Rattle.art_change.proofs.Answered.{closed_at}
-use Rattle.art_change.specs.Writes.{OutcomeBy, IsClosing, IsDone, IsCause}
+use Rattle.art_change.specs.Writes.{OutcomeBy, IsExiting, IsDone, IsCause}
 use Rattle.art_change.specs.declared.writes.Outcome.{Outcome}
 use Rattle.art_change.specs.declared.writes.Outcome.TheVariants.{New, Present, Gone, Absent, Full, Exhausted, Overlaps, Busy, Crowded}
 use Rattle.art_change.specs.declared.writes.Write.{Write}
 use Rattle.art_epoch.specs.declared.limbo.Place.{Place}
-use Rattle.art_frame.specs.Closings.{is_ended}
-use Rattle.art_frame.specs.declared.stocks.Stock.{Stock}
-use Rattle.art_gather.proofs.Asked.{same_found}
-use Rattle.art_gather.specs.Reserve.{StayFound}
+use Rattle.art_epoch.specs.Exit.{is_ended}
+use Rattle.art_epoch.specs.declared.stocks.Stock.{Stock}
+use Rattle.art_attempt.proofs.Asked.{same_found}
+use Rattle.art_attempt.specs.Reserve.{StayFound}
 use Rattle.art_step.specs.declared.views.Sizes.{Sizes}
 use Rattle.art_step.specs.declared.views.View.{View}
 
@@ -30,9 +30,9 @@ module _ (z : Sizes) (u b : View) (r : Room) (stock : Stock) (v w : View) (befor
   cause_after t (Crowded p) left h = tt
 
 module _ (z : Sizes) (u : View) (ps : List Place) (m : Write) (r : Room) (qs : List Place) (v : View) where
-  closing_cause : IsClosing z u ps m r qs v → is_ended m.closing ≡ true → IsCause z u m.attempt r m.outcome v
-  closing_cause k is =
-      let closed = closed_at z r.row.key.items r.row.value k.ended v k.waiting qs m r m.closing is k.fits in
+  exit_cause : IsExiting z u ps m r qs v → is_ended m.exit ≡ true → IsCause z u m.attempt r m.outcome v
+  exit_cause k is =
+      let closed = closed_at z r.row.key.items r.row.value k.ended v k.waiting qs m r m.exit is k.fits in
       let first = k.frame.later in
       let began = k.begun.base.later.steps in
       let found = same_found k.ended v (ap (λ (t : View). t.found) closed.is) in
@@ -41,11 +41,11 @@ module _ (z : Sizes) (u : View) (ps : List Place) (m : Write) (r : Room) (qs : L
 
   pub cause_so : (o : Outcome) → m.outcome ≡ o → IsDone z u ps o m r qs v → IsCause z u m.attempt r o v
   cause_so (Crowded p) is done = tt
-  cause_so New is done = subst (λ (o : Outcome). IsCause z u m.attempt r o v) is (closing_cause done.0 done.1)
+  cause_so New is done = subst (λ (o : Outcome). IsCause z u m.attempt r o v) is (exit_cause done.0 done.1)
   cause_so (Present stands) is done = tt
-  cause_so (Gone value) is done = subst (λ (o : Outcome). IsCause z u m.attempt r o v) is (closing_cause done.0 done.1)
+  cause_so (Gone value) is done = subst (λ (o : Outcome). IsCause z u m.attempt r o v) is (exit_cause done.0 done.1)
   cause_so Absent is done = tt
-  cause_so (Full pool) is done = subst (λ (o : Outcome). IsCause z u m.attempt r o v) is (closing_cause done.0 done.1)
-  cause_so (Exhausted x) is done = subst (λ (o : Outcome). IsCause z u m.attempt r o v) is (closing_cause done.0 done.1)
-  cause_so Overlaps is done = subst (λ (o : Outcome). IsCause z u m.attempt r o v) is (closing_cause done.0 done.1)
+  cause_so (Full pool) is done = subst (λ (o : Outcome). IsCause z u m.attempt r o v) is (exit_cause done.0 done.1)
+  cause_so (Exhausted x) is done = subst (λ (o : Outcome). IsCause z u m.attempt r o v) is (exit_cause done.0 done.1)
+  cause_so Overlaps is done = subst (λ (o : Outcome). IsCause z u m.attempt r o v) is (exit_cause done.0 done.1)
   cause_so Busy is done = tt

@@ -5,22 +5,22 @@ use Rattle.art_change.proofs.Answered.{closed_at}
 use Rattle.art_change.proofs.Endings.{left_by}
 use Rattle.art_attempt.specs.Attempts.{EndsSo}
 use Rattle.art_attempt.specs.declared.attempts.Attempt.{Attempt}
-use Rattle.art_change.specs.Writes.{HasCounted, OutcomeBy, IsClosing, IsDone, UsedTurns}
+use Rattle.art_change.specs.Writes.{HasCounted, OutcomeBy, IsExiting, IsDone, UsedTurns}
 use Rattle.art_change.specs.declared.writes.Outcome.{Outcome}
 use Rattle.art_change.specs.declared.writes.Outcome.TheVariants.{New, Present, Gone, Absent, Full, Exhausted, Overlaps, Busy, Crowded}
 use Rattle.art_change.specs.declared.writes.Write.{Write}
 use Rattle.art_epoch.specs.declared.limbo.Place.{Place}
-use Rattle.art_frame.specs.Closings.{is_ended}
+use Rattle.art_epoch.specs.Exit.{is_ended}
 use Rattle.art_step.specs.declared.views.Sizes.{Sizes}
 use Rattle.art_step.specs.declared.views.View.{View}
 
 module _ (z : Sizes) (u : View) (ps : List Place) (m : Write) (r : Room) (qs : List Place) (v : View) where
-  module _ (k : IsClosing z u ps m r qs v) (is : is_ended m.closing ≡ true) where
+  module _ (k : IsExiting z u ps m r qs v) (is : is_ended m.exit ≡ true) where
     opened_failures : k.opened.failures ≡ u.failures
     opened_failures = ap (λ (t : View). t.failures) k.frame.frame.is
 
     closed_failures : v.failures ≡ k.ended.failures
-    closed_failures = ap (λ (t : View). t.failures) (closed_at z r.row.key.items r.row.value k.ended v k.waiting qs m r m.closing is k.fits).is
+    closed_failures = ap (λ (t : View). t.failures) (closed_at z r.row.key.items r.row.value k.ended v k.waiting qs m r m.exit is k.fits).is
 
     used_turns : EndsSo z k.began (record r { stock = k.stock }) k.ended → m.left ≡ 0 → UsedTurns z u m.turns v
     used_turns so none =
@@ -49,8 +49,8 @@ module _ (z : Sizes) (u : View) (ps : List Place) (m : Write) (r : Room) (qs : L
     at_last t Overlaps h busy = cc
     at_last t (Crowded b) h busy = cc
 
-    closing_counted : HasCounted z u m.turns m.restarts m.outcome v
-    closing_counted = record {
+    exit_counted : HasCounted z u m.turns m.restarts m.outcome v
+    exit_counted = record {
       failed =
           let failed = k.begun.failed in
           let more = (left_by z k.began (record r { stock = k.stock }) k.ended m.job m.attempt m.outcome m.left k.outcome).later.failures in
@@ -65,11 +65,11 @@ module _ (z : Sizes) (u : View) (ps : List Place) (m : Write) (r : Room) (qs : L
     failed = let none = done.3 in let same = ap (λ (t : View). t.failures) done.0.only in omega (arith, none, same);
     busy = λ busy. absurd (cc);
   }
-  write_counted New is done = subst (λ (o : Outcome). HasCounted z u m.turns m.restarts o v) is (closing_counted done.0 done.1)
-  write_counted (Present stands) is done = subst (λ (o : Outcome). HasCounted z u m.turns m.restarts o v) is (closing_counted done.0 done.1)
-  write_counted (Gone value) is done = subst (λ (o : Outcome). HasCounted z u m.turns m.restarts o v) is (closing_counted done.0 done.1)
-  write_counted Absent is done = subst (λ (o : Outcome). HasCounted z u m.turns m.restarts o v) is (closing_counted done.0 done.1)
-  write_counted (Full pool) is done = subst (λ (o : Outcome). HasCounted z u m.turns m.restarts o v) is (closing_counted done.0 done.1)
-  write_counted (Exhausted c) is done = subst (λ (o : Outcome). HasCounted z u m.turns m.restarts o v) is (closing_counted done.0 done.1)
-  write_counted Overlaps is done = subst (λ (o : Outcome). HasCounted z u m.turns m.restarts o v) is (closing_counted done.0 done.1)
-  write_counted Busy is done = subst (λ (o : Outcome). HasCounted z u m.turns m.restarts o v) is (closing_counted done.0 done.1)
+  write_counted New is done = subst (λ (o : Outcome). HasCounted z u m.turns m.restarts o v) is (exit_counted done.0 done.1)
+  write_counted (Present stands) is done = subst (λ (o : Outcome). HasCounted z u m.turns m.restarts o v) is (exit_counted done.0 done.1)
+  write_counted (Gone value) is done = subst (λ (o : Outcome). HasCounted z u m.turns m.restarts o v) is (exit_counted done.0 done.1)
+  write_counted Absent is done = subst (λ (o : Outcome). HasCounted z u m.turns m.restarts o v) is (exit_counted done.0 done.1)
+  write_counted (Full pool) is done = subst (λ (o : Outcome). HasCounted z u m.turns m.restarts o v) is (exit_counted done.0 done.1)
+  write_counted (Exhausted c) is done = subst (λ (o : Outcome). HasCounted z u m.turns m.restarts o v) is (exit_counted done.0 done.1)
+  write_counted Overlaps is done = subst (λ (o : Outcome). HasCounted z u m.turns m.restarts o v) is (exit_counted done.0 done.1)
+  write_counted Busy is done = subst (λ (o : Outcome). HasCounted z u m.turns m.restarts o v) is (exit_counted done.0 done.1)

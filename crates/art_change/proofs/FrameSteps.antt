@@ -11,14 +11,14 @@ use Rattle.art_epoch.specs.declared.pins.Pinning.{Pinning}
 use Rattle.art_epoch.specs.declared.pins.Pinning.TheVariants as pinning
 use Rattle.art_epoch.specs.declared.reclaiming.ReclaimStage.{ReclaimStage}
 use Rattle.art_epoch.specs.declared.reclaiming.ReclaimStage.TheVariants as reclaiming
-use Rattle.art_frame.specs.Closings as closings
-use Rattle.art_frame.specs.Openings as openings
-use Rattle.art_frame.specs.Stocks.{first_in}
-use Rattle.art_frame.specs.declared.closings.Closing.{Closing}
-use Rattle.art_frame.specs.declared.closings.Closing.TheVariants as closing
-use Rattle.art_frame.specs.declared.openings.Opening.{Opening}
-use Rattle.art_frame.specs.declared.openings.Opening.TheVariants as opening
-use Rattle.art_frame.specs.declared.stocks.Stock.{Stock}
+use Rattle.art_epoch.specs.Exit as exits
+use Rattle.art_epoch.specs.Enter as enters
+use Rattle.art_epoch.specs.Stocks.{first_in}
+use Rattle.art_epoch.specs.declared.exit.Exit.{Exit}
+use Rattle.art_epoch.specs.declared.exit.Exit.TheVariants as exit
+use Rattle.art_epoch.specs.declared.enter.Enter.{Enter}
+use Rattle.art_epoch.specs.declared.enter.Enter.TheVariants as enter
+use Rattle.art_epoch.specs.declared.stocks.Stock.{Stock}
 use Rattle.art_machine.proofs.Counting.{pinning_counts}
 use Rattle.art_machine.specs.Acting.{Answers, IsPlain}
 use Rattle.art_machine.specs.declared.actions.Action.{Action}
@@ -56,19 +56,19 @@ reclaiming_frame reclaiming.Raising qs a is = subst IsFrame (same_Some RaiseEpoc
 reclaiming_frame (reclaiming.Watching q least) qs a is = subst IsFrame (same_Some (ReadPin q) a is) tt
 reclaiming_frame (reclaiming.Freeing least n) qs a is = subst IsFrame (if_some (nat_lt (open_index least qs) (length qs)) _ a is) tt
 
-pub opening_frame : (m : Opening) (qs : List Place) (a : Action) → openings.asks m qs ≡ Some a → IsFrame a
-opening_frame (opening.Reclaiming r b) qs a is = reclaiming_frame r.stage qs a is
-opening_frame (opening.Pinning p) qs a is = pinning_frame p a is
-opening_frame (opening.Ended o) qs a is = absurd (cc)
+pub enter_frame : (m : Enter) (qs : List Place) (a : Action) → enters.asks m qs ≡ Some a → IsFrame a
+enter_frame (enter.Reclaiming r b) qs a is = reclaiming_frame r.stage qs a is
+enter_frame (enter.Pinning p) qs a is = pinning_frame p a is
+enter_frame (enter.Ended o) qs a is = absurd (cc)
 
-gives_frame : (o : Option Link) → IsFrame (closings.gives_link o)
+gives_frame : (o : Option Link) → IsFrame (exits.gives_link o)
 gives_frame (Some d) = tt
 gives_frame None = tt
 
-pub closing_frame : (m : Closing) (s : Stock) (a : Action) → closings.asks m s ≡ Some a → IsFrame a
-closing_frame closing.Labelling s a is = subst IsFrame (same_Some ReadEpoch a is) tt
-closing_frame closing.Giving s a is = subst IsFrame (same_Some (closings.gives s) a is) (gives_frame (first_in s))
-closing_frame closing.Ended s a is = absurd (cc)
+pub exit_frame : (m : Exit) (s : Stock) (a : Action) → exits.asks m s ≡ Some a → IsFrame a
+exit_frame exit.Labelling s a is = subst IsFrame (same_Some ReadEpoch a is) tt
+exit_frame exit.Giving s a is = subst IsFrame (same_Some (exits.gives s) a is) (gives_frame (first_in s))
+exit_frame exit.Ended s a is = absurd (cc)
 
 -- ---- what such a step is
 

@@ -8,7 +8,7 @@ use Rattle.art_attempt.specs.Attempts.{EndFits, EndsSo, Fits, HasHand, IsRoom, e
 use Rattle.art_attempt.specs.Trying.{StillTries}
 use Rattle.art_attempt.specs.declared.rooms.Room.{Room}
 use Rattle.art_change.proofs.Endings.{left_by, left_since}
-use Rattle.art_change.specs.Writes.{HasBegun, HasOutcome, IsClosing, IsDone, IsFirst, IsOpening, OutcomeBy, SameRow, given, gone_by, or_busy, outcome_of}
+use Rattle.art_change.specs.Writes.{HasBegun, HasOutcome, IsExiting, IsDone, IsFirst, IsEntering, OutcomeBy, SameRow, given, gone_by, or_busy, outcome_of}
 use Rattle.art_attempt.specs.declared.attempts.Job.{Job}
 use Rattle.art_attempt.specs.declared.attempts.Ending.{Ending}
 use Rattle.art_attempt.specs.declared.attempts.Ending.TheVariants as ending
@@ -20,10 +20,10 @@ use Rattle.std.specs.List.{cons_option}
 use Rattle.art_cell.specs.Children.{link_of}
 use Rattle.art_cell.specs.declared.cells.Link.{Link}
 use Rattle.art_epoch.specs.declared.limbo.Place.{Place}
-use Rattle.art_frame.proofs.Stocked.{at_most_five, stock_hinted, stock_same}
-use Rattle.art_frame.specs.Closings.{MayClose, begins, is_ended, steps_left}
-use Rattle.art_frame.specs.Openings.{IsOpened}
-use Rattle.art_frame.specs.declared.stocks.Stock.{Stock}
+use Rattle.art_epoch.proofs.Stocked.{at_most_five, stock_hinted, stock_same}
+use Rattle.art_epoch.specs.Exit.{MayClose, begins, is_ended, steps_left}
+use Rattle.art_epoch.specs.Enter.{IsOpened}
+use Rattle.art_epoch.specs.declared.stocks.Stock.{Stock}
 use Rattle.art_step.specs.Tokens.{links_of}
 use Rattle.art_step.specs.declared.views.Sizes.{Sizes}
 use Rattle.art_step.specs.declared.views.View.{View}
@@ -43,9 +43,9 @@ given_has : (z : Sizes) (o : Option Link) (u : View) (r : Room) → HasHand z u 
 given_has z (Some d) u r has = stock_hinted z r.row.key.items r.row.value u d r.stock has
 given_has z None u r has = has
 
-pub given_opening : (z : Sizes) (u : View) (ps : List Place) (m : Write) (o : Option Link) (r : Room) (qs : List Place) (v : View) → IsOpening z u ps m r qs v → IsOpening z u ps m (given o r) qs v
-given_opening z u ps m o r qs v i = record {
-  opening = i.opening;
+pub given_enter : (z : Sizes) (u : View) (ps : List Place) (m : Write) (o : Option Link) (r : Room) (qs : List Place) (v : View) → IsEntering z u ps m r qs v → IsEntering z u ps m (given o r) qs v
+given_enter z u ps m o r qs v i = record {
+  enter = i.enter;
   going = i.going;
   free = i.free;
   has = given_has z o u r i.has;
@@ -173,7 +173,7 @@ begins_going (word ∷ words) = refl
 
 -- an outcome that an attempt had is not that limbo was crowded
 pub done_by : (z : Sizes) (u opened v : View) (ps : List Place) (j : Job) (t : Attempt) (r : Room) (o : Outcome) (left : ℕ) (m : Write) (s : Room) (qs : List Place) (w : View) → HasOutcome z opened j t r o left v
-    → IsClosing z u ps m s qs w × (is_ended m.closing ≡ true) → IsDone z u ps o m s qs w
+    → IsExiting z u ps m s qs w × (is_ended m.exit ≡ true) → IsDone z u ps o m s qs w
 done_by z u opened v ps j t r New left m s qs w h done = done
 done_by z u opened v ps j t r (Present stands) left m s qs w h done = done
 done_by z u opened v ps j t r (Gone value) left m s qs w h done = done

@@ -11,7 +11,7 @@ use Rattle.art_cell.specs.declared.cells.Cell.TheVariants as cell
 use Rattle.art_cell.specs.declared.cells.Link.{Link}
 use Rattle.art_cell.specs.declared.cells.Node.{Node}
 use Rattle.art_change.proofs.Answered.{left_opened, sees_all}
-use Rattle.art_change.specs.Writes.{Fits, HasOutcome, HoldsOrTold, OutcomeBy, IsClosing, IsDone, StageFits, WillRefuse, gone_by, is_refusal, refuses_at, told_by}
+use Rattle.art_change.specs.Writes.{Fits, HasOutcome, HoldsOrTold, OutcomeBy, IsExiting, IsDone, StageFits, WillRefuse, gone_by, is_refusal, refuses_at, told_by}
 use Rattle.art_attempt.specs.declared.attempts.Job.{Job}
 use Rattle.art_attempt.specs.declared.attempts.Stage.{Stage as AttemptStage}
 use Rattle.art_attempt.specs.declared.attempts.Stage.TheVariants as attempt
@@ -25,11 +25,11 @@ use Rattle.art_change.specs.declared.writes.Stage.{Stage}
 use Rattle.art_change.specs.declared.writes.Stage.TheVariants as stages
 use Rattle.art_change.specs.declared.writes.Write.{Write}
 use Rattle.art_epoch.specs.declared.limbo.Place.{Place}
-use Rattle.art_frame.proofs.Opens.{opening_same}
-use Rattle.art_frame.specs.Closings.{ClosingFits}
-use Rattle.art_frame.specs.declared.closings.Closing.{Closing}
-use Rattle.art_frame.specs.declared.closings.Closing.TheVariants as closing
-use Rattle.art_frame.specs.declared.stocks.Stock.{Stock}
+use Rattle.art_epoch.proofs.Opens.{enter_same}
+use Rattle.art_epoch.specs.Exit.{ExitFits}
+use Rattle.art_epoch.specs.declared.exit.Exit.{Exit}
+use Rattle.art_epoch.specs.declared.exit.Exit.TheVariants as exit
+use Rattle.art_epoch.specs.declared.stocks.Stock.{Stock}
 use Rattle.art_make.proofs.Committing.{some_words}
 use Rattle.art_make.specs.Apply.{Fits as MakeFits, at_claim, at_fill, at_release, ended_at as make_ended, so_many}
 use Rattle.art_make.specs.declared.apply.Apply.{Apply}
@@ -114,10 +114,10 @@ module _ (z : Sizes) (u : View) (m : Attempt) (r : Room) (v : View) where
 
 module _ (z : Sizes) (k : List ℕ) (value : ℕ) (u v : View) (ps qs : List Place) (us : List Link) (s : Stock) where
   -- the close tells nothing
-  close_tells : (c : Closing) → ClosingFits z k value u ps us c qs s v → (v.seen ≡ u.seen) × (v.own ≡ u.own)
-  close_tells closing.Labelling fits = (ap (λ (t : View). t.seen) fits.is, ap (λ (t : View). t.own) fits.is)
-  close_tells closing.Giving fits = (ap (λ (t : View). t.seen) fits.is, ap (λ (t : View). t.own) fits.is)
-  close_tells closing.Ended fits = (ap (λ (t : View). t.seen) fits.0.is, ap (λ (t : View). t.own) fits.0.is)
+  close_tells : (c : Exit) → ExitFits z k value u ps us c qs s v → (v.seen ≡ u.seen) × (v.own ≡ u.own)
+  close_tells exit.Labelling fits = (ap (λ (t : View). t.seen) fits.is, ap (λ (t : View). t.own) fits.is)
+  close_tells exit.Giving fits = (ap (λ (t : View). t.seen) fits.is, ap (λ (t : View). t.own) fits.is)
+  close_tells exit.Ended fits = (ap (λ (t : View). t.seen) fits.0.is, ap (λ (t : View). t.own) fits.0.is)
 
 -- what is no refusal was told
 told_of : (z : Sizes) (u : View) (j : Job) (t : Position) (c : Case) (r : Room) (o : Outcome) (left : ℕ) (v : View) (k : ArrayVec ℕ) (value : ℕ) → OutcomeBy z u j t c r o left v
@@ -142,27 +142,27 @@ is_told z u j t r o left v k value h untold =
     told_of z u j t.position t.case r o left v k value (subst (λ (i : Job). OutcomeBy z u i t.position t.case r o left v) h.job h.fits) untold
 
 module _ (z : Sizes) (u : View) (ps : List Place) (m : Write) (r : Room) (qs : List Place) (v : View) where
-  closing_told : IsClosing z u ps m r qs v → is_refusal m.outcome ≡ false → HoldsOrTold u v
-  closing_told k untold =
-      let same = close_tells z r.row.key.items r.row.value k.ended v k.waiting qs (links_of (gone_by m.outcome r.change)) r.stock m.closing k.fits in
+  exit_told : IsExiting z u ps m r qs v → is_refusal m.outcome ≡ false → HoldsOrTold u v
+  exit_told k untold =
+      let same = close_tells z r.row.key.items r.row.value k.ended v k.waiting qs (links_of (gone_by m.outcome r.change)) r.stock m.exit k.fits in
       let told = is_told z k.began m.job m.attempt (record r { stock = k.stock }) m.outcome m.left k.ended r.row.key r.row.value k.outcome untold in
       let sees = sees_all u k.opened k.ended v (ap (λ (t : View). t.seen) k.frame.frame.is) (ap (λ (t : View). t.own) k.frame.frame.is) (ap (λ (t : View). t.pass) k.frame.frame.is)
       same.0 same.1 (told_by m.outcome m.job r.row.key r.row.value) (left_opened z u ps m r qs v k).tells in
       inr (told.0, subst (SeesEvent u v) told.1 sees)
 
   done_told : (o : Outcome) → m.outcome ≡ o → IsDone z u ps o m r qs v → is_refusal o ≡ false → HoldsOrTold u v
-  done_told New is done untold = closing_told done.0 (ap is_refusal is ∙ untold)
-  done_told (Present stands) is done untold = closing_told done.0 (ap is_refusal is ∙ untold)
-  done_told (Gone had) is done untold = closing_told done.0 (ap is_refusal is ∙ untold)
-  done_told Absent is done untold = closing_told done.0 (ap is_refusal is ∙ untold)
+  done_told New is done untold = exit_told done.0 (ap is_refusal is ∙ untold)
+  done_told (Present stands) is done untold = exit_told done.0 (ap is_refusal is ∙ untold)
+  done_told (Gone had) is done untold = exit_told done.0 (ap is_refusal is ∙ untold)
+  done_told Absent is done untold = exit_told done.0 (ap is_refusal is ∙ untold)
   done_told (Full pool) is done untold = cc
   done_told (Exhausted c) is done untold = cc
   done_told Overlaps is done untold = cc
   done_told Busy is done untold = cc
   done_told (Crowded b) is done untold = cc
 
-  pub told_at_close : StageFits z u ps stages.Closing m r qs v → is_refusal m.outcome ≡ false → HoldsOrTold u v
-  told_at_close fits untold = closing_told fits.0 untold
+  pub told_at_close : StageFits z u ps stages.Exit m r qs v → is_refusal m.outcome ≡ false → HoldsOrTold u v
+  told_at_close fits untold = exit_told fits.0 untold
 
   pub told_at_end : StageFits z u ps stages.Ended m r qs v → is_refusal m.outcome ≡ false → HoldsOrTold u v
   told_at_end fits untold = done_told m.outcome refl fits untold
@@ -191,17 +191,17 @@ refusal_tells Busy j k value refuses = refl
 refusal_tells (Crowded b) j k value refuses = refl
 
 module _ (z : Sizes) (k : List ℕ) (value : ℕ) (u v : View) (ps qs : List Place) (us : List Link) (s : Stock) where
-  close_frees : (c : Closing) → ClosingFits z k value u ps us c qs s v → v.held ≡ []
-  close_frees closing.Labelling fits = ap (λ (t : View). t.held) fits.is ∙ fits.may.free
-  close_frees closing.Giving fits = ap (λ (t : View). t.held) fits.is ∙ fits.free
-  close_frees closing.Ended fits = fits.0.free
+  close_frees : (c : Exit) → ExitFits z k value u ps us c qs s v → v.held ≡ []
+  close_frees exit.Labelling fits = ap (λ (t : View). t.held) fits.is ∙ fits.may.free
+  close_frees exit.Giving fits = ap (λ (t : View). t.held) fits.is ∙ fits.free
+  close_frees exit.Ended fits = fits.0.free
 
 module _ (z : Sizes) (u : View) (ps : List Place) (m : Write) (r : Room) (qs : List Place) (v : View) where
-  closing_free : IsClosing z u ps m r qs v → is_refusal m.outcome ≡ true → HoldsOrTold u v → ⊥
-  closing_free k refuses =
+  exit_free : IsExiting z u ps m r qs v → is_refusal m.outcome ≡ true → HoldsOrTold u v → ⊥
+  exit_free k refuses =
       let bytes = r.row.key.items in
-      let same = close_tells z bytes r.row.value k.ended v k.waiting qs (links_of (gone_by m.outcome r.change)) r.stock m.closing k.fits in
-      let free = close_frees z bytes r.row.value k.ended v k.waiting qs (links_of (gone_by m.outcome r.change)) r.stock m.closing k.fits in
+      let same = close_tells z bytes r.row.value k.ended v k.waiting qs (links_of (gone_by m.outcome r.change)) r.stock m.exit k.fits in
+      let free = close_frees z bytes r.row.value k.ended v k.waiting qs (links_of (gone_by m.outcome r.change)) r.stock m.exit k.fits in
       let sees = sees_all u k.opened k.ended v (ap (λ (t : View). t.seen) k.frame.frame.is) (ap (λ (t : View). t.own) k.frame.frame.is) (ap (λ (t : View). t.pass) k.frame.frame.is)
       same.0 same.1 (told_by m.outcome m.job r.row.key r.row.value) (left_opened z u ps m r qs v k).tells in
       let none = subst (SeesEvent u v) (refusal_tells m.outcome m.job r.row.key r.row.value refuses) sees in
@@ -212,18 +212,18 @@ module _ (z : Sizes) (u : View) (ps : List Place) (m : Write) (r : Room) (qs : L
   done_free (Present stands) is done refuses = cc
   done_free (Gone had) is done refuses = cc
   done_free Absent is done refuses = cc
-  done_free (Full pool) is done refuses = closing_free done.0 (ap is_refusal is)
-  done_free (Exhausted c) is done refuses = closing_free done.0 (ap is_refusal is)
-  done_free Overlaps is done refuses = closing_free done.0 (ap is_refusal is)
-  done_free Busy is done refuses = closing_free done.0 (ap is_refusal is)
+  done_free (Full pool) is done refuses = exit_free done.0 (ap is_refusal is)
+  done_free (Exhausted c) is done refuses = exit_free done.0 (ap is_refusal is)
+  done_free Overlaps is done refuses = exit_free done.0 (ap is_refusal is)
+  done_free Busy is done refuses = exit_free done.0 (ap is_refusal is)
   done_free (Crowded b) is done refuses = free_untold u v (ap (λ (t : View). t.held) done.0.only ∙ done.1) (ap (λ (t : View). t.own) done.0.only)
 
   refused_free : (s : Stage) → refuses_at s m → StageFits z u ps s m r qs v → HoldsOrTold u v → ⊥
-  refused_free stages.Opening refuses fits =
-      let same = opening_same z u v ps qs m.opening fits.opening fits.going in
+  refused_free stages.Enter refuses fits =
+      let same = enter_same z u v ps qs m.enter fits.enter fits.going in
       free_untold u v (same.0 ∙ fits.free) same.1
   refused_free stages.Trying refuses fits = absurd refuses
-  refused_free stages.Closing refuses fits = closing_free fits.0 refuses
+  refused_free stages.Exit refuses fits = exit_free fits.0 refuses
   refused_free stages.Ended refuses fits = done_free m.outcome refl fits refuses
 
   pub refusing_is_free : WillRefuse m → Fits z u ps m r qs v → HoldsOrTold u v → ⊥

@@ -2,7 +2,6 @@
 pub use Rattle.art_attempt.proofs as ArtAttempt
 pub use Rattle.art_attempt.proofs.ArtPlan
 pub use Rattle.art_find.proofs as ArtFind
-pub use Rattle.art_attempt.proofs.ArtGather
 pub mod Answered
 mod Causes
 pub mod Counted

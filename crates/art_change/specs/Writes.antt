@@ -20,12 +20,12 @@ use Rattle.art_change.specs.declared.writes.Write.{Write}
 use Rattle.art_epoch.specs.Limbo.{IsLimbo}
 use Rattle.art_epoch.specs.Pins.{MayPin}
 use Rattle.art_epoch.specs.declared.limbo.Place.{Place}
-use Rattle.art_frame.specs.Closings as closings
-use Rattle.art_frame.specs.Closings.{ClosingFits}
-use Rattle.art_frame.specs.Openings as openings
-use Rattle.art_frame.specs.Openings.{IsCrowded, IsOpened, MayOpen, OpeningFits}
-use Rattle.art_frame.specs.Stocks.{first_in, hinted_at}
-use Rattle.art_frame.specs.declared.stocks.Stock.{Stock}
+use Rattle.art_epoch.specs.Exit as exits
+use Rattle.art_epoch.specs.Exit.{ExitFits}
+use Rattle.art_epoch.specs.Enter as enters
+use Rattle.art_epoch.specs.Enter.{IsCrowded, IsOpened, MayOpen, EnterFits}
+use Rattle.art_epoch.specs.Stocks.{first_in, hinted_at}
+use Rattle.art_epoch.specs.declared.stocks.Stock.{Stock}
 use Rattle.art_plan.specs.Insert.Puts.{inserted}
 use Rattle.art_plan.specs.declared.insert.leaves.NewLeaf.{NewLeaf}
 use Rattle.art_find.specs.declared.findings.Position.{Position}
@@ -49,9 +49,9 @@ use Rattle.art_step.specs.declared.views.View.{View}
 -- ---- what it asks
 
 abbrev pub asks_at : Stage → Write → Room → List Place → Option Action
-asks_at stage.Opening m r ps = openings.asks m.opening ps
+asks_at stage.Enter m r ps = enters.asks m.enter ps
 asks_at stage.Trying m r ps = attempts.asks m.attempt r
-asks_at stage.Closing m r ps = closings.asks m.closing r.stock
+asks_at stage.Exit m r ps = exits.asks m.exit r.stock
 asks_at stage.Ended m r ps = None
 
 -- what the check of a place may tell
@@ -86,9 +86,9 @@ given None r = r
 
 -- a close takes at most seven
 abbrev pub left_at : Stage → Write → Room → List Place → ℕ
-left_at stage.Opening m r ps = openings.steps_left m.opening ps + tries_left m.left + 7
+left_at stage.Enter m r ps = enters.steps_left m.enter ps + tries_left m.left + 7
 left_at stage.Trying m r ps = attempts.steps_left m.left m.attempt + 7
-left_at stage.Closing m r ps = closings.steps_left m.closing r.stock
+left_at stage.Exit m r ps = exits.steps_left m.exit r.stock
 left_at stage.Ended m r ps = 0
 
 -- at most so many steps come, where ps wait in limbo
@@ -173,9 +173,9 @@ pub record MayWrite (z : Sizes) (u : View) (own : ℕ) (ps : List Place) (r : Ro
   pub room : IsRoom z r
   pub has : HasHand z u r
 
-pub record IsOpening (z : Sizes) (u : View) (ps : List Place) (m : Write) (r : Room) (qs : List Place) (v : View) : Type 0 where
-  pub opening : OpeningFits z u ps m.opening qs v
-  pub going : openings.ended_at m.opening ≡ None
+pub record IsEntering (z : Sizes) (u : View) (ps : List Place) (m : Write) (r : Room) (qs : List Place) (v : View) : Type 0 where
+  pub enter : EnterFits z u ps m.enter qs v
+  pub going : enters.ended_at m.enter ≡ None
   pub free : u.held ≡ []
   pub has : HasHand z u r
   pub later : u.steps ≤ v.steps
@@ -211,7 +211,7 @@ abbrev pub HasTurn : Write → Type 0
 HasTurn m = attempts.is_free m.attempt ≡ true → 0 < m.left
 
 -- the last attempt has ended, when these numbers were in hand and those places waited
-pub record IsClosing (z : Sizes) (u : View) (ps : List Place) (m : Write) (r : Room) (qs : List Place) (v : View) : Type 0 where
+pub record IsExiting (z : Sizes) (u : View) (ps : List Place) (m : Write) (r : Room) (qs : List Place) (v : View) : Type 0 where
   pub opened : View
   pub began : View
   pub ended : View
@@ -222,18 +222,18 @@ pub record IsClosing (z : Sizes) (u : View) (ps : List Place) (m : Write) (r : R
   pub outcome : HasOutcome z began m.job m.attempt (record r { stock = stock }) m.outcome m.left ended
   pub later : ended.steps ≤ v.steps
   pub counted : opened.steps + m.turns ≤ ended.steps + m.left
-  pub fits : ClosingFits z r.row.key.items r.row.value ended waiting (links_of (gone_by m.outcome r.change))
-      m.closing qs r.stock v
+  pub fits : ExitFits z r.row.key.items r.row.value ended waiting (links_of (gone_by m.outcome r.change))
+      m.exit qs r.stock v
 
 -- limbo was crowded, or the close has ended
 abbrev pub IsDone : Sizes → View → List Place → Outcome → Write → Room → List Place → View → Type 0
 IsDone z u ps (Crowded b) m r qs v = IsCrowded z u v ps qs b × (u.held ≡ []) × HasHand z u r × (m.restarts ≡ 0)
-IsDone z u ps o m r qs v = IsClosing z u ps m r qs v × (closings.is_ended m.closing ≡ true)
+IsDone z u ps o m r qs v = IsExiting z u ps m r qs v × (exits.is_ended m.exit ≡ true)
 
 abbrev pub StageFits : Sizes → View → List Place → Stage → Write → Room → List Place → View → Type 0
-StageFits z u ps stage.Opening m r qs v = IsOpening z u ps m r qs v
+StageFits z u ps stage.Enter m r qs v = IsEntering z u ps m r qs v
 StageFits z u ps stage.Trying m r qs v = IsTrying z u ps m r qs v × HasTurn m
-StageFits z u ps stage.Closing m r qs v = IsClosing z u ps m r qs v × (closings.is_ended m.closing ≡ false)
+StageFits z u ps stage.Exit m r qs v = IsExiting z u ps m r qs v × (exits.is_ended m.exit ≡ false)
 StageFits z u ps stage.Ended m r qs v = IsDone z u ps m.outcome m r qs v
 
 pub record Fits (z : Sizes) (u : View) (ps : List Place) (m : Write) (r : Room) (qs : List Place) (v : View) : Type 0 where
@@ -252,9 +252,9 @@ is_refusal o = true
 
 -- it will end as a refusal: it has come to one, or has no turns
 abbrev pub refuses_at : Stage → Write → Type 0
-refuses_at stage.Opening m = m.left ≡ 0
+refuses_at stage.Enter m = m.left ≡ 0
 refuses_at stage.Trying m = ⊥
-refuses_at stage.Closing m = is_refusal m.outcome ≡ true
+refuses_at stage.Exit m = is_refusal m.outcome ≡ true
 refuses_at stage.Ended m = is_refusal m.outcome ≡ true
 
 abbrev pub WillRefuse : Write → Type 0
@@ -262,7 +262,7 @@ WillRefuse m = refuses_at m.stage m
 
 -- the turns that it has used where it is given up
 abbrev pub turns_used_at : Stage → Write → ℕ
-turns_used_at stage.Opening m = 0
+turns_used_at stage.Enter m = 0
 turns_used_at stage.Trying m = m.turns - m.left
 turns_used_at s m = m.turns
 

@@ -3,11 +3,11 @@
 //! # The way
 //!
 //! ```text
-//! Opening ── what waits in limbo goes back; four places, or it is Crowded; the pass is pinned
+//! Enter ── what waits in limbo goes back; four places, or it is Crowded; the pass is pinned
 //!    ▼
 //! Trying ─── one attempt after another (`art_attempt`), as long as they end as `Restart` and turns are left
 //!    ▼
-//! Closing ── a label for what was unlinked, unused numbers back, the pass goes idle
+//! Exit ── a label for what was unlinked, unused numbers back, the pass goes idle
 //! ```
 //!
 //! The steps of attempts are counted, those of the frame are not. Where all turns are used and nothing is held, the write ends
@@ -40,7 +40,7 @@ mod driver;
 mod writes;
 
 pub use art_attempt;
-pub use art_attempt::{Job, art_gather};
+pub use art_attempt::Job;
 pub use art_find;
 pub use driver::{Stepped, finish, step};
 pub use writes::{Outcome, Stage, Write};

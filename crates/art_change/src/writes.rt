@@ -4,7 +4,7 @@ ghost use Rattle.art_attempt.specs.Asking.{Answers};
 ghost use Rattle.art_attempt.specs.Attempts.{EndFits, HasHand, IsRoom, ended_left, is_free, tries_left};
 ghost use Rattle.art_attempt.specs.Attempts.{asks as attempt_asks};
 ghost use Rattle.art_attempt.specs.declared.rooms.Room.{Room as RoomOf};
-ghost use Rattle.art_change.specs.Writes.{Fits, HasAnswered, HasBegun, HasCounted, HasGround, HasOutcome, HasTurn, IsApart, IsClosing, IsFirst, IsOpening, IsReady, IsSameWrite, IsTrying, MayWrite, OverlapsBy, RestartsBy, SameRow, WasOpened};
+ghost use Rattle.art_change.specs.Writes.{Fits, HasAnswered, HasBegun, HasCounted, HasGround, HasOutcome, HasTurn, IsApart, IsExiting, IsFirst, IsEntering, IsReady, IsSameWrite, IsTrying, MayWrite, OverlapsBy, RestartsBy, SameRow, WasOpened};
 ghost use Rattle.art_change.specs.Writes.{HoldsOrTold, WillRefuse, freed_by, given, is_refusal, turns_used};
 ghost use Rattle.art_change.specs.Writes.{asks, asks_at, deed_at, ended_at, gone_by, left_at, most_steps, or_busy, outcome_of, steps_left};
 ghost use Rattle.art_attempt.specs.declared.attempts.Ending.TheVariants.{Restart as anew, Overlaps as attempt_overlaps};
@@ -12,19 +12,18 @@ ghost use Rattle.art_change.specs.declared.writes.Outcome.TheVariants.{Overlaps 
 ghost use Rattle.art_change.specs.declared.writes.Stage.TheVariants as stages;
 ghost use Rattle.art_epoch.specs.Limbo.{places_of};
 ghost use Rattle.art_epoch.specs.declared.limbo.Place.{Place};
-ghost use Rattle.art_frame.specs.Closings.{asks as closing_asks, is_ended};
-ghost use Rattle.art_frame.specs.Openings.{asks as opening_asks};
-ghost use Rattle.art_frame.specs.declared.stocks.Stock.{Stock as StockOf};
+ghost use Rattle.art_epoch.specs.Exit.{asks as exit_asks, is_ended};
+ghost use Rattle.art_epoch.specs.Enter.{asks as enter_asks};
+ghost use Rattle.art_epoch.specs.declared.stocks.Stock.{Stock as StockOf};
 ghost use Rattle.art_machine.specs.Acting.{Answers as ActionAnswers, IsAllowed as IsActionAllowed};
 ghost use Rattle.art_machine.specs.declared.actions.Action.{Action as ActionOf};
 ghost use Rattle.art_step.specs.declared.deeds.Deed.{Deed};
 ghost use Rattle.art_step.specs.declared.views.Sizes.{Sizes};
 ghost use Rattle.art_step.specs.declared.views.View.{View};
 
-use art_attempt::art_frame::{Blocker, Closing, Opened, Opening};
 use art_attempt::{Attempt, Ending, Job, Room};
 use art_cell::{Cell, Pool};
-use art_epoch::Limbo;
+use art_epoch::{Blocker, Enter, Entered, Exit, Limbo};
 use art_machine::{Action, Answer, perform};
 use art_plan::Change;
 use art_step::EpochSteps;
@@ -60,11 +59,11 @@ const STAGES: u32 = 6;
 #[derive(Clone, Copy)]
 pub enum Stage {
     /// What waits goes back, and the pass is pinned.
-    Opening,
+    Enter,
     /// An attempt is made.
     Trying,
     /// What was unlinked gets its label, what is in hand goes back, the pass goes idle.
-    Closing,
+    Exit,
     Ended,
 }
 
@@ -73,9 +72,9 @@ pub enum Stage {
 pub struct Write {
     job: Job,
     stage: Stage,
-    opening: Opening,
+    enter: Enter,
     attempt: Attempt,
-    closing: Closing,
+    exit: Exit,
     outcome: Outcome,
     turns: u32,
     /// How many turns are left: steps that its attempts may still make while nothing is held.
@@ -99,10 +98,10 @@ impl Write {
     {
         Write {
             job,
-            stage: Stage::Opening,
-            opening: Opening::new(own, room.sizes.passes, limbo),
+            stage: Stage::Enter,
+            enter: Enter::new(own, room.sizes.passes, limbo),
             attempt: Attempt::new(job),
-            closing: Closing::Ended,
+            exit: Exit::Ended,
             outcome: Outcome::Busy,
             turns,
             left: turns,
@@ -120,9 +119,9 @@ impl Write {
             ended_at self.now ≡ None → (a : ActionOf) × (result ≡ Some a) }
     {
         match self.stage {
-            Stage::Opening => self.open_next(limbo),
+            Stage::Enter => self.enter_next(limbo),
             Stage::Trying => self.try_next(room),
-            Stage::Closing => self.close_next(room),
+            Stage::Exit => self.exit_next(room),
             Stage::Ended => None,
         }
     }
@@ -145,9 +144,9 @@ impl Write {
         ensures left { steps_left self.new room.new (places_of limbo.new) < steps_left self.old room.old (places_of limbo.old) }
     {
         match self.stage {
-            Stage::Opening => self.open_on(room, limbo, answer),
+            Stage::Enter => self.enter_on(room, limbo, answer),
             Stage::Trying => self.try_told(room, answer),
-            Stage::Closing => self.close_told(room, limbo, answer),
+            Stage::Exit => self.exit_told(room, limbo, answer),
             Stage::Ended => {}
         }
     }
@@ -187,13 +186,13 @@ impl Write {
             HoldsOrTold u v }
     {
         match self.stage {
-            Stage::Opening => {
+            Stage::Enter => {
                 self.turns = 0;
                 self.left = 0;
                 true
             }
             Stage::Trying => self.stop(room),
-            Stage::Closing | Stage::Ended => is_refusal(self.outcome),
+            Stage::Exit | Stage::Ended => is_refusal(self.outcome),
         }
     }
 
@@ -216,7 +215,7 @@ impl Write {
         }
         self.turns = self.turns.saturating_sub(self.left);
         self.left = 0;
-        self.close(room, Outcome::Busy);
+        self.begin_exit(room, Outcome::Busy);
         true
     }
 
@@ -235,14 +234,14 @@ impl Write {
     }
 
     /// What comes next of the opening.
-    fn open_next(&self, limbo: &Limbo) -> Option<Action>
-        ensures asks { (r : RoomOf) → result ≡ asks_at stages.Opening self.now r (places_of limbo.now) }
+    fn enter_next(&self, limbo: &Limbo) -> Option<Action>
+        ensures asks { (r : RoomOf) → result ≡ asks_at stages.Enter self.now r (places_of limbo.now) }
         ensures allowed { (z : Sizes) (u v : View) (ps : List Place) (r : RoomOf) (d : Deed) →
-            IsOpening z u ps self.now r (places_of limbo.now) v → IfSome result (IsAllowed z d r.change v) }
-        ensures going { (z : Sizes) (u v : View) (ps : List Place) (r : RoomOf) → IsOpening z u ps self.now r (places_of limbo.now) v →
+            IsEntering z u ps self.now r (places_of limbo.now) v → IfSome result (IsAllowed z d r.change v) }
+        ensures going { (z : Sizes) (u v : View) (ps : List Place) (r : RoomOf) → IsEntering z u ps self.now r (places_of limbo.now) v →
             (a : ActionOf) × (result ≡ Some a) }
     {
-        self.opening.next(limbo)
+        self.enter.next(limbo)
     }
 
     /// What comes next of an attempt.
@@ -258,68 +257,68 @@ impl Write {
     }
 
     /// What comes next of the close.
-    fn close_next(&self, room: &Room) -> Option<Action>
-        ensures asks { (qs : List Place) → result ≡ asks_at stages.Closing self.now room.now qs }
-        ensures allowed { (z : Sizes) (u v : View) (ps qs : List Place) (d : Deed) → IsClosing z u ps self.now room.now qs v →
+    fn exit_next(&self, room: &Room) -> Option<Action>
+        ensures asks { (qs : List Place) → result ≡ asks_at stages.Exit self.now room.now qs }
+        ensures allowed { (z : Sizes) (u v : View) (ps qs : List Place) (d : Deed) → IsExiting z u ps self.now room.now qs v →
             IfSome result (IsAllowed z d room.now.change v) }
-        ensures going { is_ended self.now.closing ≡ false → (a : ActionOf) × (result ≡ Some a) }
+        ensures going { is_ended self.now.exit ≡ false → (a : ActionOf) × (result ≡ Some a) }
     {
-        self.closing.next(&room.stock)
+        self.exit.next(&room.stock)
     }
 
     /// A step of the opening was made. Where a number went back by it, the next search of its pool begins there.
-    fn open_on(&mut self, room: &mut Room, limbo: &mut Limbo, answer: Answer)
-        requires stage { self.old.stage ≡ stages.Opening }
+    fn enter_on(&mut self, room: &mut Room, limbo: &mut Limbo, answer: Answer)
+        requires stage { self.old.stage ≡ stages.Enter }
         requires told { (z : Sizes) × (u : View) × (v : View) × (w : View) × (ps : List Place) × (asked : ActionOf) ×
-            IsRoom z room.old × IsOpening z u ps self.old room.old (places_of limbo.old) v ×
-            (opening_asks self.old.opening (places_of limbo.old) ≡ Some asked) × ActionAnswers z None asked answer v w }
+            IsRoom z room.old × IsEntering z u ps self.old room.old (places_of limbo.old) v ×
+            (enter_asks self.old.enter (places_of limbo.old) ≡ Some asked) × ActionAnswers z None asked answer v w }
         ensures job { self.new.job ≡ self.old.job }
         ensures turns { self.new.turns ≡ self.old.turns }
         ensures restarts { self.new.restarts ≡ self.old.restarts }
         ensures refuses { self.old.left ≡ 0 → WillRefuse self.new }
         ensures overlaps { self.new.outcome ≡ overlaps → self.old.outcome ≡ overlaps }
-        ensures hints { room.new ≡ given (freed_by (opening_asks self.old.opening (places_of limbo.old))) room.old }
-        ensures left { steps_left self.new room.new (places_of limbo.new) < left_at stages.Opening self.old room.old (places_of limbo.old) }
+        ensures hints { room.new ≡ given (freed_by (enter_asks self.old.enter (places_of limbo.old))) room.old }
+        ensures left { steps_left self.new room.new (places_of limbo.new) < left_at stages.Enter self.old room.old (places_of limbo.old) }
         ensures fits { (z : Sizes) (u v w : View) (ps : List Place) (asked : ActionOf) → IsRoom z room.old →
-            IsOpening z u ps self.old room.old (places_of limbo.old) v →
-            opening_asks self.old.opening (places_of limbo.old) ≡ Some asked → ActionAnswers z None asked answer v w →
+            IsEntering z u ps self.old room.old (places_of limbo.old) v →
+            enter_asks self.old.enter (places_of limbo.old) ≡ Some asked → ActionAnswers z None asked answer v w →
             Fits z u ps self.new room.new (places_of limbo.new) w }
     {
         self.note_given(room, limbo);
-        self.open_told(room, limbo, answer);
+        self.enter_told(room, limbo, answer);
     }
 
     /// Where a number goes back by the next step of the opening, a search of its pool begins at its word.
     fn note_given(&self, room: &mut Room, limbo: &Limbo)
-        ensures { room.new ≡ given (freed_by (opening_asks self.now.opening (places_of limbo.now))) room.old }
+        ensures { room.new ≡ given (freed_by (enter_asks self.now.enter (places_of limbo.now))) room.old }
     {
-        if let Some(Action::Free { link }) = self.opening.next(limbo) {
+        if let Some(Action::Free { link }) = self.enter.next(limbo) {
             room.stock.start_at(link);
         }
     }
 
     /// A step of the opening was made.
-    fn open_told(&mut self, room: &Room, limbo: &mut Limbo, answer: Answer)
-        requires stage { self.old.stage ≡ stages.Opening }
+    fn enter_told(&mut self, room: &Room, limbo: &mut Limbo, answer: Answer)
+        requires stage { self.old.stage ≡ stages.Enter }
         requires told { (z : Sizes) × (u : View) × (v : View) × (w : View) × (ps : List Place) × (asked : ActionOf) ×
-            IsRoom z room.now × IsOpening z u ps self.old room.now (places_of limbo.old) v ×
-            (opening_asks self.old.opening (places_of limbo.old) ≡ Some asked) × ActionAnswers z None asked answer v w }
+            IsRoom z room.now × IsEntering z u ps self.old room.now (places_of limbo.old) v ×
+            (enter_asks self.old.enter (places_of limbo.old) ≡ Some asked) × ActionAnswers z None asked answer v w }
         ensures job { self.new.job ≡ self.old.job }
         ensures turns { self.new.turns ≡ self.old.turns }
         ensures restarts { self.new.restarts ≡ self.old.restarts }
         ensures refuses { self.old.left ≡ 0 → WillRefuse self.new }
         ensures overlaps { self.new.outcome ≡ overlaps → self.old.outcome ≡ overlaps }
-        ensures left { steps_left self.new room.now (places_of limbo.new) < left_at stages.Opening self.old room.now (places_of limbo.old) }
+        ensures left { steps_left self.new room.now (places_of limbo.new) < left_at stages.Enter self.old room.now (places_of limbo.old) }
         ensures fits { (z : Sizes) (u v w : View) (ps : List Place) (asked : ActionOf) → IsRoom z room.now →
-            IsOpening z u ps self.old room.now (places_of limbo.old) v →
-            opening_asks self.old.opening (places_of limbo.old) ≡ Some asked → ActionAnswers z None asked answer v w →
+            IsEntering z u ps self.old room.now (places_of limbo.old) v →
+            enter_asks self.old.enter (places_of limbo.old) ≡ Some asked → ActionAnswers z None asked answer v w →
             Fits z u ps self.new room.now (places_of limbo.new) w }
     {
-        self.opening.told(limbo, answer);
-        match self.opening.ended() {
+        self.enter.told(limbo, answer);
+        match self.enter.ended() {
             None => {}
-            Some(Opened::Pinned) => self.begin(room),
-            Some(Opened::Crowded(blocker)) => {
+            Some(Entered::Pinned) => self.begin(room),
+            Some(Entered::Crowded(blocker)) => {
                 self.outcome = Outcome::Crowded(blocker);
                 self.stage = Stage::Ended;
             }
@@ -359,14 +358,14 @@ impl Write {
             Fits z u ps self.new room.now qs v }
     {
         if self.left == 0 {
-            self.close(room, Outcome::Busy);
+            self.begin_exit(room, Outcome::Busy);
             return;
         }
         self.stage = Stage::Trying;
     }
 
     /// The last attempt has ended so: the frame is closed.
-    fn close(&mut self, room: &Room, outcome: Outcome)
+    fn begin_exit(&mut self, room: &Room, outcome: Outcome)
         ensures going { ended_at self.new ≡ None }
         ensures refuses { is_refusal outcome ≡ true → WillRefuse self.new }
         ensures job { self.new.job ≡ self.old.job }
@@ -380,8 +379,8 @@ impl Write {
             opened.steps + self.old.turns ≤ v.steps + self.old.left → Fits z u ps self.new room.now qs v }
     {
         self.outcome = outcome;
-        self.closing = Closing::new(gone_by(outcome, &room.change));
-        self.stage = Stage::Closing;
+        self.exit = Exit::new(gone_by(outcome, &room.change));
+        self.stage = Stage::Exit;
     }
 
     /// Makes its steps, stage after stage, as far as nothing stops it.
@@ -420,7 +419,7 @@ impl Write {
     {
         match self.stage {
             Stage::Trying => self.try_on(steps, room),
-            Stage::Opening | Stage::Closing => self.frame_on(steps, room, limbo),
+            Stage::Enter | Stage::Exit => self.frame_on(steps, room, limbo),
             Stage::Ended => {}
         }
     }
@@ -453,8 +452,8 @@ impl Write {
             IfSome result (IsActionAllowed z None v) }
     {
         match self.stage {
-            Stage::Opening => self.opening.next(limbo),
-            Stage::Closing => self.closing.next(&room.stock),
+            Stage::Enter => self.enter.next(limbo),
+            Stage::Exit => self.exit.next(&room.stock),
             Stage::Trying | Stage::Ended => None,
         }
     }
@@ -527,7 +526,7 @@ impl Write {
     {
         if self.left == 0 {
             if self.attempt.is_free() {
-                self.close(room, Outcome::Busy);
+                self.begin_exit(room, Outcome::Busy);
             }
         }
     }
@@ -547,7 +546,7 @@ impl Write {
             opened.steps + self.old.turns ≤ v.steps + self.old.left → Fits z u ps self.new room.now qs v }
     {
         match outcome_of(self.left, ending) {
-            Some(outcome) => self.close(room, outcome),
+            Some(outcome) => self.begin_exit(room, outcome),
             None => {
                 self.restarts = self.restarts.saturating_add(1);
                 self.go_on(room);
@@ -556,11 +555,11 @@ impl Write {
     }
 
     /// A step of the close was made.
-    fn close_told(&mut self, room: &mut Room, limbo: &mut Limbo, answer: Answer)
-        requires stage { self.old.stage ≡ stages.Closing }
+    fn exit_told(&mut self, room: &mut Room, limbo: &mut Limbo, answer: Answer)
+        requires stage { self.old.stage ≡ stages.Exit }
         requires told { (z : Sizes) × (u : View) × (v : View) × (w : View) × (ps : List Place) × (asked : ActionOf) ×
-            IsRoom z room.old × IsClosing z u ps self.old room.old (places_of limbo.old) v ×
-            (closing_asks self.old.closing room.old.stock ≡ Some asked) × ActionAnswers z None asked answer v w }
+            IsRoom z room.old × IsExiting z u ps self.old room.old (places_of limbo.old) v ×
+            (exit_asks self.old.exit room.old.stock ≡ Some asked) × ActionAnswers z None asked answer v w }
         ensures job { self.new.job ≡ self.old.job }
         ensures turns { self.new.turns ≡ self.old.turns }
         ensures restarts { self.new.restarts ≡ self.old.restarts }
@@ -568,14 +567,14 @@ impl Write {
         ensures outcome { self.new.outcome ≡ self.old.outcome }
         ensures key { SameRow room.old room.new }
         ensures fits { (z : Sizes) (u v w : View) (ps : List Place) (asked : ActionOf) → IsRoom z room.old →
-            IsClosing z u ps self.old room.old (places_of limbo.old) v → closing_asks self.old.closing room.old.stock ≡ Some asked →
+            IsExiting z u ps self.old room.old (places_of limbo.old) v → exit_asks self.old.exit room.old.stock ≡ Some asked →
             ActionAnswers z None asked answer v w → Fits z u ps self.new room.new (places_of limbo.new) w }
-        ensures left { steps_left self.new room.new (places_of limbo.new) < left_at stages.Closing self.old room.old (places_of limbo.old) }
+        ensures left { steps_left self.new room.new (places_of limbo.new) < left_at stages.Exit self.old room.old (places_of limbo.old) }
     {
         let Room { stock, change, .. } = room;
-        self.closing
+        self.exit
             .told(limbo, stock, gone_by(self.outcome, change), answer);
-        if self.closing.ended() {
+        if self.exit.ended() {
             self.stage = Stage::Ended;
         }
     }

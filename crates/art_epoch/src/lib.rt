@@ -1,4 +1,5 @@
-//! Free numbers, epochs, pins and limbo: how a pass takes a number, and when one that it unlinked may go back.
+//! Free numbers, epochs, pins and limbo: how a pass takes a number, when one that it unlinked may go back, and what stands around
+//! an attempt of a change: the way in, the numbers in hand, the way out.
 //!
 //! # The problem
 //!
@@ -61,6 +62,53 @@
 //! A call is the loop that runs its machine; the last three are their steps alone. A machine of another crate asks for them as actions:
 //! a number in hand goes back by `GiveBack`, and one that waits by `Free`.
 //!
+//! # Around an attempt
+//!
+//! A pass that changes the tree has stamps only while it is pinned. What its commit unlinks waits in limbo, so there has to be
+//! room before the commit. Numbers are taken before it is known whether the commit will be made. All of this is the same
+//! whatever the change is. So it stands here once, around the attempt, which is made of crates above:
+//!
+//! ```text
+//! Enter ──── what waits goes back, as far as it may ── four places are free? ── no: Crowded, and by which pass
+//!                                                          │ yes
+//!                                                          ▼
+//!                                                         pin
+//!                                                          ▼
+//! attempt ── the descent, numbers, checks, the change ◄──► begun anew, with what is in hand
+//!                                                          ▼
+//! Exit ───── the epoch labels what was unlinked ── each number in hand goes back ── 0 is stored: idle
+//! ```
+//!
+//! Numbers go back only while their own pass is idle, so `Enter` reclaims before it pins, where anything waits, and once. A
+//! commit unlinks three numbers at most; four places have to be free. Where they are not, the pass stays idle, and the caller is
+//! told which pass is in the way (`Blocker`): it may come back once that pass has gone on.
+//!
+//! The oldest number that stays is the first, in the order of the places, that is not labelled below the least word that was
+//! found and is not 0. Its blocker is the first pass whose word was not above the label. That is one value, kept while the words
+//! are found one after another. A word names its pass where the place that stays first with it could have gone without it: no
+//! earlier pass blocked that place. Of two places, labelled with 5 and with 7:
+//!
+//! | word found | least word | stays | blocker |
+//! |---|---|---|---|
+//! | pass 1: 0 | none | nothing | nobody |
+//! | pass 2: 6 | 6 | that with 7 | pass 2 |
+//! | pass 3: 5 | 5 | both; first is that with 5, which could go before | pass 3 |
+//! | pass 4: 5 | 5 | the same | pass 3 |
+//!
+//! A `Stock` names the leaf in hand, whether its ten words are written, and a node of each layout, one at most. It is the
+//! memory of the pass for what its view calls the hand (`HasStock`): just these numbers are there. An attempt that fails begins
+//! anew with them; what a commit links is taken out (`spend_leaf`, `spend_node`).
+//!
+//! `Exit` notes the epoch first, if something was unlinked, before anything else finds one: it labels what came to limbo.
+//! Then the numbers of the stock go back, the leaf and then the nodes from the smallest layout on, each in one step, and without
+//! a look at any other. Last, 0 is stored.
+//!
+//! What both know between two steps is in `EnterFits` and `ExitFits`, of the view at the beginning and the view now. When an `Enter`
+//! has ended (`HasEnded`), either the pass is pinned and four places are free (`IsOpened`), or nothing changed but that what might
+//! go back did, and the blocker is one (`IsCrowded`). When an `Exit` has ended the pass is idle, holds nothing and has nothing in
+//! hand; what was unlinked waits under one label, the epoch that was noted (`IsClosed`). An `Enter` makes at most 3 steps, one for each
+//! pass and one for each place that waited, and an `Exit` at most 7.
+//!
 //! # In which order
 //!
 //! `retire` follows the commit before any other call that notes the epoch: each note labels what is in limbo without a
@@ -78,12 +126,18 @@
 //! number where some are free: at each word another pass may come first.
 #![tactic(auto)]
 
+mod enter;
+mod exit;
 mod limbo;
 mod pins;
 mod reclaiming;
+mod stocks;
 mod taking;
 
+pub use enter::{Blocker, Enter, Entered};
+pub use exit::Exit;
 pub use limbo::{Limbo, Place, lets_go};
 pub use pins::{Pinning, advance, give, pin, unpin};
 pub use reclaiming::{ReclaimStage, Reclaiming, Retiring, reclaim, retire};
+pub use stocks::Stock;
 pub use taking::{Search, Taking, take};

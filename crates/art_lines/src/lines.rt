@@ -1,5 +1,5 @@
 //! From a line to the command that it says.
-ghost use Rattle.std.specs.Prelude.{◌≡◌, ℕ, ◌≢◌, ◌<◌, ◌≤◌, List, length, take, Ok, Err, MatchResult};
+ghost use Rattle.std.specs.Prelude.{◌≡◌, ℕ, ◌≢◌, ◌<◌, ◌≤◌, List, [], length, take, Ok, Err, MatchResult};
 ghost use Rattle.art_lines.specs.Lines.{number_said, value_said, tuple_said, elements_in, tuple_in, tuple_alone, insert_said, scan_said, word_said, command_said, line_says};
 ghost use Rattle.serde_json.specs.Data.{number, string};
 ghost use Rattle.serde_json.specs.View.{view, number_view, items_view};
@@ -110,8 +110,11 @@ pub struct LineReader {
 }
 
 impl LineReader {
-    /// Allocates nothing.
-    pub fn new(alloc: Global) -> LineReader {
+    /// That read no command yet. Allocates nothing.
+    pub fn new(alloc: Global) -> LineReader
+        ensures lower { (lower_in result).items ≡ [] }
+        ensures upper { (upper_in result).items ≡ [] }
+    {
         LineReader {
             alloc,
             lo: Tuple::new(),

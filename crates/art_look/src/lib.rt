@@ -1,4 +1,5 @@
-//! A look of a range: the first row from a key on, before a bound, and how far there is no other.
+//! One event of a read, from the pin of the pass to its close: a get of a key, or a look of a range, which is the first row from a
+//! key on, before a bound, and how far there is no other.
 //!
 //! # The problem
 //!
@@ -48,15 +49,50 @@
 //!
 //! Each step comes further (`most_steps`): a byte of the path costs at most 320, since a node with a place for each byte is read
 //! from the byte on until a child is found. So a look that meets no failure ends within 30,000 steps.
+//!
+//! # From the pin to the close
+//!
+//! A get is the descent of `art_find`. A get and a look want the same frame, which is that of a `Seek`:
+//!
+//! ```text
+//! Pinning ── the epoch is noted, and stored in the word of the pass
+//!    ▼
+//! Walking ── a descent by the key (`art_find`) or a look of the range, from the anchor down; where a version word was
+//!    │       locked, obsolete or changed, it restarts, under the same pin
+//!    ▼
+//! Closing ── 0 is stored: the pass is idle
+//! ```
+//!
+//! The steps of the walk are counted, those of the pin and of the close are not. Where all turns are used and nothing is told, the
+//! seek closes as `Busy`: with no turns at all, right after its pin. A restart is counted before the turns are looked at.
+//!
+//! `Seek` is a value of scalars with `next` and `told`. Who runs it keeps what is large: the key of a get, or both ends of a range,
+//! and the `PathBuffer`. They are handed in at each step and not copied, but for the key of a deed, as that is told, and for what
+//! a look has seen.
+//!
+//! `step` makes one step on a carrier, and says what was asked, and which kind of step it was (`Stepped`): one of the pin or of the
+//! close, one of the walk that went on or restarted, or the one that made the event. So a caller learns from its result alone
+//! what the view of the pass saw at that step. `finish` makes all steps that are left. A seek that is no longer wanted may be given
+//! up while nothing is told (`give_up`): the turns that were used count as all there were.
+//!
+//! When it has ended (`HasSought`) the pass is idle and holds nothing, with the numbers that it had in hand and in limbo, and made
+//! one event, or none where it is `Busy`. The restarts are the failures that were met, and turns that were used are few beside them.
 #![tactic(auto)]
 
+mod driver;
 mod fronts;
+mod hurries;
 mod looks;
 mod path_buffers;
 mod reads;
+mod seeks;
 mod straight;
+mod walks;
 
+pub use driver::{Made, Stepped, finish, step};
 pub use fronts::Front;
 pub use looks::{ChildSought, Look, LookStage, Reach, Reached, Seen};
 pub use path_buffers::PathBuffer;
+pub use seeks::{Seek, SeekStage};
 pub use straight::look_on;
+pub use walks::{Aim, Outcome};

@@ -15,8 +15,8 @@ use Rattle.art_call.specs.ArtChange.declared.writes.Outcome.TheVariants as wrote
 use Rattle.art_call.specs.ArtChange.declared.writes.Stage.{Stage}
 use Rattle.art_call.specs.ArtChange.declared.writes.Stage.TheVariants as stage
 use Rattle.art_call.specs.ArtLook.declared.looks.Seen.{Seen}
-use Rattle.art_call.specs.ArtSeek.declared.walks.Outcome.{Outcome as SeekOutcome}
-use Rattle.art_call.specs.ArtSeek.declared.walks.Outcome.TheVariants as sought
+use Rattle.art_call.specs.ArtLook.declared.walks.Outcome.{Outcome as SeekOutcome}
+use Rattle.art_call.specs.ArtLook.declared.walks.Outcome.TheVariants as sought
 use Rattle.art_call.specs.Calls.{FindsOverlap, Get, GoesOn, Insert, IsAdmitted, Look, Remove, StaysApart, Wish, finds_overlap, outcome_of, stays_apart}
 use Rattle.art_call.specs.Outcomes.{of_seek, of_write}
 use Rattle.art_call.specs.declared.callers.Call.{Call}
@@ -69,9 +69,9 @@ sought_none sought.Seen None is = cc
 sought_none sought.Busy seen is = cc
 
 ended_so : (s : Stage) (o x : WriteOutcome) → writes.outcome_at s o ≡ Some x → o ≡ x
-ended_so stage.Opening o x is = cc
+ended_so stage.Enter o x is = cc
 ended_so stage.Trying o x is = cc
-ended_so stage.Closing o x is = cc
+ended_so stage.Exit o x is = cc
 ended_so stage.Ended o x is = same_Some o x is
 
 ends_apart : (c : Caller) (m : Call) → stays_apart m → outcome_of c m ≢ Some outcome.Overlaps

@@ -22,11 +22,11 @@ use Rattle.art_epoch.specs.Limbo.{places_of}
 use Rattle.art_epoch.specs.Pins.{view_advanced}
 use Rattle.art_epoch.specs.Reclaiming.{Look as LookAt, view_watched}
 use Rattle.art_epoch.specs.declared.limbo.Place.{Place}
-use Rattle.art_call.specs.ArtFrame.Openings.{IsCrowded}
-use Rattle.art_call.specs.ArtFrame.declared.openings.Blocker.{Blocker}
+use Rattle.art_call.specs.ArtEpoch.Enter.{IsCrowded}
+use Rattle.art_call.specs.ArtEpoch.declared.enter.Blocker.{Blocker}
 use Rattle.art_key.specs.declared.bounds.Bound.{Bound}
-use Rattle.art_call.specs.ArtSeek.Seeks as seeks
-use Rattle.art_call.specs.ArtSeek.declared.seeks.Seek.{Seek}
+use Rattle.art_call.specs.ArtLook.Seeks as seeks
+use Rattle.art_call.specs.ArtLook.declared.seeks.Seek.{Seek}
 use Rattle.art_runs.proofs.OthersIdle.{alone_on, idle_current}
 use Rattle.art_runs.proofs.Calm.{IsMoment}
 use Rattle.art_runs.proofs.Finding.{finds_on, finds_start}

@@ -19,21 +19,21 @@ use Rattle.art_machine.specs.declared.actions.Action.{Action}
 use Rattle.art_machine.specs.declared.actions.Action.TheVariants.{Begin, Read}
 use Rattle.art_call.specs.ArtFind.declared.descents.Stage.{Stage}
 use Rattle.art_call.specs.ArtFind.declared.descents.Stage.TheVariants as descent
-use Rattle.art_call.specs.ArtGather.Naming as naming
-use Rattle.art_call.specs.ArtGather.Naming.{StillNames}
-use Rattle.art_call.specs.ArtGather.Validate as validate
-use Rattle.art_call.specs.ArtGather.Validate.{checks_of, reads_by}
-use Rattle.art_call.specs.ArtGather.declared.naming.Naming.{Naming}
-use Rattle.art_call.specs.ArtGather.declared.naming.Naming.TheVariants as names
-use Rattle.art_call.specs.ArtGather.declared.validate.Cells.{Cells as CellsOf}
-use Rattle.art_call.specs.ArtGather.declared.validate.Validate.{Validate}
-use Rattle.art_call.specs.ArtGather.declared.validate.Validate.TheVariants as checks
+use Rattle.art_call.specs.ArtAttempt.Naming as naming
+use Rattle.art_call.specs.ArtAttempt.Naming.{StillNames}
+use Rattle.art_call.specs.ArtAttempt.Validate as validate
+use Rattle.art_call.specs.ArtAttempt.Validate.{checks_of, reads_by}
+use Rattle.art_call.specs.ArtAttempt.declared.naming.Naming.{Naming}
+use Rattle.art_call.specs.ArtAttempt.declared.naming.Naming.TheVariants as names
+use Rattle.art_call.specs.ArtAttempt.declared.validate.Cells.{Cells as CellsOf}
+use Rattle.art_call.specs.ArtAttempt.declared.validate.Validate.{Validate}
+use Rattle.art_call.specs.ArtAttempt.declared.validate.Validate.TheVariants as checks
 use Rattle.art_key.specs.declared.bounds.Bound.{Bound}
 use Rattle.art_call.specs.ArtLook.Looks as looks
 use Rattle.art_call.specs.ArtLook.declared.looks.LookStage.{LookStage}
 use Rattle.art_call.specs.ArtLook.declared.looks.LookStage.TheVariants as look
 use Rattle.art_call.specs.ArtLook.declared.path_buffers.PathBuffer.{PathBuffer}
-use Rattle.art_call.proofs.ArtGather.LowerNames.{body_read, has_read}
+use Rattle.art_call.proofs.ArtAttempt.LowerNames.{body_read, has_read}
 use Rattle.art_call.specs.ArtFind.ReadSets.{node_of}
 use Rattle.art_call.specs.ArtFind.Rereadings.{reads_next}
 use Rattle.art_call.specs.ArtFind.declared.read_sets.ReadSet.{ReadSet}

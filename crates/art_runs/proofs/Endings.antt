@@ -11,14 +11,14 @@ use Rattle.art_call.specs.ArtChange.Writes as writes
 use Rattle.art_call.specs.ArtChange.declared.writes.Stage.{Stage}
 use Rattle.art_call.specs.ArtChange.declared.writes.Stage.TheVariants as write
 use Rattle.art_call.specs.ArtChange.declared.writes.Write.{Write}
-use Rattle.art_call.specs.ArtFrame.Closings as closings
-use Rattle.art_call.specs.ArtFrame.declared.closings.Closing.{Closing}
-use Rattle.art_call.specs.ArtFrame.declared.closings.Closing.TheVariants.{Ended, Giving, Labelling}
-use Rattle.art_call.specs.ArtFrame.declared.stocks.Stock.{Stock}
-use Rattle.art_call.specs.ArtSeek.Seeks as seeks
-use Rattle.art_call.specs.ArtSeek.declared.seeks.Seek.{Seek}
-use Rattle.art_call.specs.ArtSeek.declared.seeks.SeekStage.{SeekStage}
-use Rattle.art_call.specs.ArtSeek.declared.seeks.SeekStage.TheVariants as seek
+use Rattle.art_call.specs.ArtEpoch.Exit as exits
+use Rattle.art_call.specs.ArtEpoch.declared.exit.Exit.{Exit}
+use Rattle.art_call.specs.ArtEpoch.declared.exit.Exit.TheVariants.{Ended, Giving, Labelling}
+use Rattle.art_call.specs.ArtEpoch.declared.stocks.Stock.{Stock}
+use Rattle.art_call.specs.ArtLook.Seeks as seeks
+use Rattle.art_call.specs.ArtLook.declared.seeks.Seek.{Seek}
+use Rattle.art_call.specs.ArtLook.declared.seeks.SeekStage.{SeekStage}
+use Rattle.art_call.specs.ArtLook.declared.seeks.SeekStage.TheVariants as seek
 use Rattle.art_call.specs.Calls.{Get, GoesOn, Insert, IsCalling, Look, Remove, Wish, left_in, outcome_of}
 use Rattle.art_call.specs.declared.callers.Call.{Call}
 use Rattle.art_call.specs.declared.callers.Call.TheVariants as call
@@ -44,15 +44,15 @@ none_mapped : {A B : Type 0} (f : A → B) (o : Option A) → option_map f o ≡
 none_mapped f None none = refl
 none_mapped f (Some x) none = absurd (cc)
 
-closing_left : (c : Closing) (s : Stock) → closings.is_ended c ≡ false → 0 < closings.steps_left c s
-closing_left Labelling s going = omega arith
-closing_left Giving s going = omega arith
-closing_left Ended s going = absurd (cc)
+exit_left : (c : Exit) (s : Stock) → exits.is_ended c ≡ false → 0 < exits.steps_left c s
+exit_left Labelling s going = omega arith
+exit_left Giving s going = omega arith
+exit_left Ended s going = absurd (cc)
 
 write_left : (z : Sizes) (u v : View) (ps qs : List Place) (m : Write) (r : Room) (s : Stage) → writes.StageFits z u ps s m r qs v → writes.outcome_at s m.outcome ≡ None → 0 < writes.left_at s m r qs
-write_left z u v ps qs m r write.Opening fits going = omega arith
+write_left z u v ps qs m r write.Enter fits going = omega arith
 write_left z u v ps qs m r write.Trying fits going = omega arith
-write_left z u v ps qs m r write.Closing fits going = closing_left m.closing r.stock fits.1
+write_left z u v ps qs m r write.Exit fits going = exit_left m.exit r.stock fits.1
 write_left z u v ps qs m r write.Ended fits going = absurd (cc)
 
 seek_left : (m : Seek) (s : SeekStage) → seeks.outcome_at s m.outcome ≡ None → 0 < seeks.left_at s m

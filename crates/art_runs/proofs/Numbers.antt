@@ -14,14 +14,14 @@ use Rattle.art_epoch.specs.Taking.{IsSeen, SearchFits, around}
 use Rattle.art_epoch.specs.declared.taking.Search.{Search}
 use Rattle.art_epoch.specs.declared.taking.Search.TheVariants.{Looking, Clearing, Took}
 use Rattle.art_epoch.specs.declared.taking.Taking.{Taking}
-use Rattle.art_call.specs.ArtFrame.Stocks.{IsIn, node_in}
-use Rattle.art_call.specs.ArtFrame.declared.stocks.Stock.{Stock}
-use Rattle.art_call.specs.ArtGather.Reserve as reserve
-use Rattle.art_call.specs.ArtGather.Reserve.{leaf_asked}
-use Rattle.art_call.specs.ArtGather.declared.reserve.Reserve.{Reserve}
-use Rattle.art_call.specs.ArtGather.declared.reserve.Reserve.TheVariants as supplies
-use Rattle.art_call.specs.ArtGather.declared.reserve.Demand.{Demand}
-use Rattle.art_call.proofs.ArtAttempt.ArtGather.Asked.{if_some}
+use Rattle.art_call.specs.ArtEpoch.Stocks.{IsIn, node_in}
+use Rattle.art_call.specs.ArtEpoch.declared.stocks.Stock.{Stock}
+use Rattle.art_call.specs.ArtAttempt.Reserve as reserve
+use Rattle.art_call.specs.ArtAttempt.Reserve.{leaf_asked}
+use Rattle.art_call.specs.ArtAttempt.declared.reserve.Reserve.{Reserve}
+use Rattle.art_call.specs.ArtAttempt.declared.reserve.Reserve.TheVariants as supplies
+use Rattle.art_call.specs.ArtAttempt.declared.reserve.Demand.{Demand}
+use Rattle.art_call.proofs.ArtAttempt.Asked.{if_some}
 use Rattle.art_machine.specs.declared.actions.Action.{Action}
 use Rattle.art_machine.specs.declared.actions.Action.TheVariants.{ClearBit, WriteLeaf}
 use Rattle.art_call.specs.ArtMake.declared.leaf_writer.LeafWriter.{LeafWriter}

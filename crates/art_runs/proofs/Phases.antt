@@ -8,7 +8,7 @@ use Rattle.std.specs.Prelude.{◌==◌, ◌++◌}
 use Rattle.art_call.proofs.ArtAttempt.Free.{free_so}
 use Rattle.art_call.proofs.ArtAttempt.Finds.{finding_allowed}
 use Rattle.art_call.proofs.ArtAttempt.Given.{ask_looks}
-use Rattle.art_call.proofs.ArtAttempt.ArtGather.Asked.{IsSupply, naming_asks_look, reads_look, supply_asks_supply, validate_asks_look}
+use Rattle.art_call.proofs.ArtAttempt.Asked.{IsSupply, naming_asks_look, reads_look, supply_asks_supply, validate_asks_look}
 use Rattle.art_call.specs.ArtAttempt.Cases.{cells_of}
 use Rattle.art_make.proofs.Keeping.{IsMade, asks_made}
 use Rattle.art_call.proofs.ArtAttempt.Left.{tries_some}

@@ -14,7 +14,7 @@ use Rattle.art_call.specs.declared.callers.Caller.{Caller}
 use Rattle.art_call.proofs.ArtChange.Counted.{write_counted}
 use Rattle.art_call.proofs.ArtChange.Endings.{left_by}
 use Rattle.art_call.specs.ArtChange.Writes as writes
-use Rattle.art_call.specs.ArtChange.Writes.{IsClosing, gone_by}
+use Rattle.art_call.specs.ArtChange.Writes.{IsExiting, gone_by}
 use Rattle.art_call.specs.ArtChange.declared.writes.Stage.{Stage}
 use Rattle.art_call.specs.ArtChange.declared.writes.Stage.TheVariants as stage
 use Rattle.art_call.specs.ArtChange.declared.writes.Write.{Write}
@@ -22,19 +22,19 @@ use Rattle.art_step.specs.Tokens.{links_of}
 use Rattle.art_cell.specs.declared.cells.Link.{Link}
 use Rattle.art_epoch.specs.Limbo.{places_of}
 use Rattle.art_epoch.specs.declared.limbo.Place.{Place}
-use Rattle.art_call.specs.ArtFrame.Closings.{ClosingFits}
-use Rattle.art_call.specs.ArtFrame.declared.closings.Closing.{Closing}
-use Rattle.art_call.specs.ArtFrame.declared.closings.Closing.TheVariants.{Labelling, Giving, Ended}
-use Rattle.art_call.specs.ArtFrame.declared.stocks.Stock.{Stock}
+use Rattle.art_call.specs.ArtEpoch.Exit.{ExitFits}
+use Rattle.art_call.specs.ArtEpoch.declared.exit.Exit.{Exit}
+use Rattle.art_call.specs.ArtEpoch.declared.exit.Exit.TheVariants.{Labelling, Giving, Ended}
+use Rattle.art_call.specs.ArtEpoch.declared.stocks.Stock.{Stock}
 use Rattle.art_key.specs.declared.bounds.Bound.{Bound}
 use Rattle.art_call.specs.ArtLook.declared.path_buffers.PathBuffer.{PathBuffer}
-use Rattle.art_call.specs.ArtSeek.Seeks as seeks
-use Rattle.art_call.specs.ArtSeek.Walks as walks
-use Rattle.art_call.specs.ArtSeek.declared.seeks.Seek.{Seek}
-use Rattle.art_call.specs.ArtSeek.declared.seeks.SeekStage.{SeekStage}
-use Rattle.art_call.specs.ArtSeek.declared.seeks.SeekStage.TheVariants as seek
-use Rattle.art_call.specs.ArtSeek.declared.walks.Walk.{Walk}
-use Rattle.art_call.specs.ArtSeek.declared.walks.Walk.TheVariants.{Key, Range}
+use Rattle.art_call.specs.ArtLook.Seeks as seeks
+use Rattle.art_call.specs.ArtLook.Walks as walks
+use Rattle.art_call.specs.ArtLook.declared.seeks.Seek.{Seek}
+use Rattle.art_call.specs.ArtLook.declared.seeks.SeekStage.{SeekStage}
+use Rattle.art_call.specs.ArtLook.declared.seeks.SeekStage.TheVariants as seek
+use Rattle.art_call.specs.ArtLook.declared.walks.Walk.{Walk}
+use Rattle.art_call.specs.ArtLook.declared.walks.Walk.TheVariants.{Key, Range}
 use Rattle.art_runs.proofs.Calls.{seek_fits, write_fits}
 use Rattle.art_runs.specs.Solo.{RestartLaw}
 use Rattle.art_step.specs.Steps.Epoch as epoch
@@ -57,29 +57,29 @@ module _ (z : Sizes) (b : View) (r : Room) (v : View) where
 -- ---- a write
 
 -- a close fails nowhere
-closing_same : (z : Sizes) (k : List ℕ) (value : ℕ) (u v : View) (ps qs : List Place) (us : List Link) (s : Stock) (c : Closing) → ClosingFits z k value u ps us c qs s v → v.failures ≡ u.failures
-closing_same z k value u v ps qs us s Labelling fits = ap (λ (x : View). x.failures) fits.is
-closing_same z k value u v ps qs us s Giving fits = ap (λ (x : View). x.failures) fits.is
-closing_same z k value u v ps qs us s Ended fits = ap (λ (x : View). x.failures) fits.0.is
+exit_same : (z : Sizes) (k : List ℕ) (value : ℕ) (u v : View) (ps qs : List Place) (us : List Link) (s : Stock) (c : Exit) → ExitFits z k value u ps us c qs s v → v.failures ≡ u.failures
+exit_same z k value u v ps qs us s Labelling fits = ap (λ (x : View). x.failures) fits.is
+exit_same z k value u v ps qs us s Giving fits = ap (λ (x : View). x.failures) fits.is
+exit_same z k value u v ps qs us s Ended fits = ap (λ (x : View). x.failures) fits.0.is
 
 module _ (z : Sizes) (u : View) (ps : List Place) (n : Write) (r : Room) (qs : List Place) (v : View) where
-  closing_failed : IsClosing z u ps n r qs v → u.failures + n.restarts ≤ v.failures
-  closing_failed k =
+  exit_failed : IsExiting z u ps n r qs v → u.failures + n.restarts ≤ v.failures
+  exit_failed k =
       let failed = k.begun.failed in
       let more = (left_by z k.began (record r { stock = k.stock }) k.ended n.job n.attempt n.outcome n.left k.outcome).later.failures in
       let first = ap (λ (x : View). x.failures) k.frame.frame.is in
-      let last = closing_same z r.row.key.items r.row.value k.ended v k.waiting qs (links_of (gone_by n.outcome r.change)) r.stock n.closing k.fits in
+      let last = exit_same z r.row.key.items r.row.value k.ended v k.waiting qs (links_of (gone_by n.outcome r.change)) r.stock n.exit k.fits in
       omega (arith, failed, more, first, last)
 
   write_failed : (s : Stage) → writes.StageFits z u ps s n r qs v → v.failures ≡ u.failures → n.restarts ≡ 0
-  write_failed stage.Opening fits none = fits.fresh
+  write_failed stage.Enter fits none = fits.fresh
   write_failed stage.Trying fits none =
       let t = fits.0 in
       let failed = t.begun.failed in
       let more = attempt_later z t.began r v n.attempt n.attempt.stage t.fits.stage t.going in
       let first = ap (λ (x : View). x.failures) t.frame.frame.is in
       omega (arith, failed, more, first, none)
-  write_failed stage.Closing fits none = let failed = closing_failed fits.0 in omega (arith, failed, none)
+  write_failed stage.Exit fits none = let failed = exit_failed fits.0 in omega (arith, failed, none)
   write_failed stage.Ended fits none = let failed = (write_counted z u ps n r qs v n.outcome refl fits).failed in omega (arith, failed, none)
 
 -- ---- a seek

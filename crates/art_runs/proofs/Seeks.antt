@@ -13,17 +13,17 @@ use Rattle.art_key.specs.declared.bounds.Bound.{Bound}
 use Rattle.art_call.proofs.ArtLook.Stages as look_stages
 use Rattle.art_call.specs.ArtLook.Looks as looks
 use Rattle.art_call.specs.ArtLook.declared.path_buffers.PathBuffer.{PathBuffer}
-use Rattle.art_call.specs.ArtSeek.Seeks.{Fits, StageFits, asks_at}
-use Rattle.art_call.specs.ArtSeek.Walks as walks
-use Rattle.art_call.specs.ArtSeek.Walks.{deed_at, of_value}
-use Rattle.art_call.specs.ArtSeek.declared.seeks.Seek.{Seek}
-use Rattle.art_call.specs.ArtSeek.declared.seeks.SeekStage.{SeekStage}
-use Rattle.art_call.specs.ArtSeek.declared.seeks.SeekStage.TheVariants as stage
-use Rattle.art_call.specs.ArtSeek.declared.walks.Outcome.TheVariants.{Seen}
-use Rattle.art_call.specs.ArtSeek.declared.walks.Walk.{Walk}
-use Rattle.art_call.specs.ArtSeek.declared.walks.Walk.TheVariants.{Key, Range}
+use Rattle.art_call.specs.ArtLook.Seeks.{Fits, StageFits, asks_at}
+use Rattle.art_call.specs.ArtLook.Walks as walks
+use Rattle.art_call.specs.ArtLook.Walks.{deed_at, of_value}
+use Rattle.art_call.specs.ArtLook.declared.seeks.Seek.{Seek}
+use Rattle.art_call.specs.ArtLook.declared.seeks.SeekStage.{SeekStage}
+use Rattle.art_call.specs.ArtLook.declared.seeks.SeekStage.TheVariants as stage
+use Rattle.art_call.specs.ArtLook.declared.walks.Outcome.TheVariants.{Seen}
+use Rattle.art_call.specs.ArtLook.declared.walks.Walk.{Walk}
+use Rattle.art_call.specs.ArtLook.declared.walks.Walk.TheVariants.{Key, Range}
 use Rattle.art_call.proofs.ArtChange.FrameSteps.{IsFrame, pinning_frame}
-use Rattle.art_call.proofs.ArtSeek.Parts.{walk_looks}
+use Rattle.art_call.proofs.ArtLook.Parts.{walk_looks}
 use Rattle.art_machine.specs.Acting.{Answers, telling}
 use Rattle.art_machine.specs.declared.actions.Action.{Action}
 use Rattle.art_machine.specs.declared.actions.Action.TheVariants.{StorePin}

@@ -20,7 +20,7 @@ use Rattle.art_call.specs.declared.outcomes.Outcome.{Outcome}
 use Rattle.art_call.specs.declared.outcomes.Outcome.TheVariants as outcome
 use Rattle.art_call.proofs.ArtChange.Answered.{answered, left_opened, sees_all}
 use Rattle.art_call.specs.ArtChange.Writes as writes
-use Rattle.art_call.specs.ArtChange.Writes.{IsClosing, IsTrying, StageFits, gone_by}
+use Rattle.art_call.specs.ArtChange.Writes.{IsExiting, IsTrying, StageFits, gone_by}
 use Rattle.art_call.specs.ArtAttempt.declared.attempts.Job.{Job}
 use Rattle.art_call.specs.ArtAttempt.declared.attempts.Job.TheVariants as job
 use Rattle.art_call.specs.ArtChange.declared.writes.Outcome.{Outcome as WriteOutcome}
@@ -35,11 +35,11 @@ use Rattle.art_epoch.specs.declared.limbo.Place.{Place}
 use Rattle.art_call.proofs.ArtFind.Stages.{still_reading}
 use Rattle.art_call.specs.ArtFind.Descents as descents
 use Rattle.art_call.specs.ArtFind.Driven.{get_done}
-use Rattle.art_call.proofs.ArtFrame.Opens.{opening_same}
-use Rattle.art_call.specs.ArtFrame.Closings.{ClosingFits}
-use Rattle.art_call.specs.ArtFrame.declared.closings.Closing.{Closing}
-use Rattle.art_call.specs.ArtFrame.declared.closings.Closing.TheVariants as closing
-use Rattle.art_call.specs.ArtFrame.declared.stocks.Stock.{Stock}
+use Rattle.art_call.proofs.ArtEpoch.Opens.{enter_same}
+use Rattle.art_call.specs.ArtEpoch.Exit.{ExitFits}
+use Rattle.art_call.specs.ArtEpoch.declared.exit.Exit.{Exit}
+use Rattle.art_call.specs.ArtEpoch.declared.exit.Exit.TheVariants as exit
+use Rattle.art_call.specs.ArtEpoch.declared.stocks.Stock.{Stock}
 use Rattle.art_key.specs.declared.bounds.Bound.{Bound}
 use Rattle.art_call.proofs.ArtLook.Stages.{still_reading as still_looking}
 use Rattle.art_call.specs.ArtLook.Looks as looks
@@ -50,19 +50,19 @@ use Rattle.art_call.specs.ArtMake.Apply.{Fits as MakeFits, ended_at as make_ende
 use Rattle.art_call.specs.ArtMake.declared.apply.Apply.{Apply}
 use Rattle.art_call.specs.ArtMake.declared.apply.Apply.TheVariants.{Upgrading, Claiming, Filling, Writing, Committing, Releasing, ReleasingNode, GivingUp, Ended}
 use Rattle.art_call.specs.ArtPlan.declared.changes.Change.{Change}
-use Rattle.art_call.proofs.ArtSeek.Closes.{closed_sought, over_told}
-use Rattle.art_call.proofs.ArtSeek.Ends.{key_not_seen, range_not_absent, range_not_found}
-use Rattle.art_call.specs.ArtSeek.Seeks as seeks
-use Rattle.art_call.specs.ArtSeek.Walks as walks
-use Rattle.art_call.specs.ArtSeek.Walks.{IsEnd, aim_of, of_value, told_of}
-use Rattle.art_call.specs.ArtSeek.declared.seeks.Seek.{Seek}
-use Rattle.art_call.specs.ArtSeek.declared.seeks.SeekStage.{SeekStage}
-use Rattle.art_call.specs.ArtSeek.declared.seeks.SeekStage.TheVariants as seek
-use Rattle.art_call.specs.ArtSeek.declared.walks.Aim.TheVariants as aim
-use Rattle.art_call.specs.ArtSeek.declared.walks.Outcome.{Outcome as SeekOutcome}
-use Rattle.art_call.specs.ArtSeek.declared.walks.Outcome.TheVariants.{Found, Absent, Seen, Busy}
-use Rattle.art_call.specs.ArtSeek.declared.walks.Walk.{Walk}
-use Rattle.art_call.specs.ArtSeek.declared.walks.Walk.TheVariants.{Key, Range}
+use Rattle.art_call.proofs.ArtLook.Closes.{closed_sought, over_told}
+use Rattle.art_call.proofs.ArtLook.SeekEnds.{key_not_seen, range_not_absent, range_not_found}
+use Rattle.art_call.specs.ArtLook.Seeks as seeks
+use Rattle.art_call.specs.ArtLook.Walks as walks
+use Rattle.art_call.specs.ArtLook.Walks.{IsEnd, aim_of, of_value, told_of}
+use Rattle.art_call.specs.ArtLook.declared.seeks.Seek.{Seek}
+use Rattle.art_call.specs.ArtLook.declared.seeks.SeekStage.{SeekStage}
+use Rattle.art_call.specs.ArtLook.declared.seeks.SeekStage.TheVariants as seek
+use Rattle.art_call.specs.ArtLook.declared.walks.Aim.TheVariants as aim
+use Rattle.art_call.specs.ArtLook.declared.walks.Outcome.{Outcome as SeekOutcome}
+use Rattle.art_call.specs.ArtLook.declared.walks.Outcome.TheVariants.{Found, Absent, Seen, Busy}
+use Rattle.art_call.specs.ArtLook.declared.walks.Walk.{Walk}
+use Rattle.art_call.specs.ArtLook.declared.walks.Walk.TheVariants.{Key, Range}
 use Rattle.art_step.specs.Events.{MakesEvent, SeesEvent}
 use Rattle.art_step.specs.Shows.{OnlyReads, Rest}
 use Rattle.art_step.specs.Steps.Epoch as epoch
@@ -141,10 +141,10 @@ module _ (z : Sizes) (u : View) (r : Room) (v : View) where
   tries_some j t is short fits on = job_some j (subst (λ (k : Job). MadeSo u v (made_by k r.row r.gone)) is (attempt_made z u r v t t.stage short fits.stage on))
 
 module _ (z : Sizes) (k : List ℕ) (value : ℕ) (u v : View) (ps qs : List Place) (us : List Link) (s : Stock) where
-  close_tells : (c : Closing) → ClosingFits z k value u ps us c qs s v → (v.seen ≡ u.seen) × (v.own ≡ u.own)
-  close_tells closing.Labelling fits = (ap (λ (t : View). t.seen) fits.is, ap (λ (t : View). t.own) fits.is)
-  close_tells closing.Giving fits = (ap (λ (t : View). t.seen) fits.is, ap (λ (t : View). t.own) fits.is)
-  close_tells closing.Ended fits = (ap (λ (t : View). t.seen) fits.0.is, ap (λ (t : View). t.own) fits.0.is)
+  close_tells : (c : Exit) → ExitFits z k value u ps us c qs s v → (v.seen ≡ u.seen) × (v.own ≡ u.own)
+  close_tells exit.Labelling fits = (ap (λ (t : View). t.seen) fits.is, ap (λ (t : View). t.own) fits.is)
+  close_tells exit.Giving fits = (ap (λ (t : View). t.seen) fits.is, ap (λ (t : View). t.own) fits.is)
+  close_tells exit.Ended fits = (ap (λ (t : View). t.seen) fits.0.is, ap (λ (t : View). t.own) fits.0.is)
 
 module _ (z : Sizes) (u : View) (ps : List Place) (m : Write) (r : Room) (qs : List Place) (v : View) where
   -- since the view u
@@ -162,9 +162,9 @@ module _ (z : Sizes) (u : View) (ps : List Place) (m : Write) (r : Room) (qs : L
             (since_tries k.opened k.began v what k.begun.base some.1),
       )
 
-  closing_tells : IsClosing z u ps m r qs v → Tells
-  closing_tells k =
-      let same = close_tells z r.row.key.items r.row.value k.ended v k.waiting qs (links_of (gone_by m.outcome r.change)) r.stock m.closing k.fits in
+  exit_tells : IsExiting z u ps m r qs v → Tells
+  exit_tells k =
+      let same = close_tells z r.row.key.items r.row.value k.ended v k.waiting qs (links_of (gone_by m.outcome r.change)) r.stock m.exit k.fits in
       let opened = k.frame.frame.is in
       inr (
         m.outcome,
@@ -173,9 +173,9 @@ module _ (z : Sizes) (u : View) (ps : List Place) (m : Write) (r : Room) (qs : L
       )
 
   write_tells : (s : Stage) → length r.row.key.items ≤ 64 → StageFits z u ps s m r qs v → Tells
-  write_tells stages.Opening short fits = inl (opening_same z u v ps qs m.opening fits.opening fits.going).1
+  write_tells stages.Enter short fits = inl (enter_same z u v ps qs m.enter fits.enter fits.going).1
   write_tells stages.Trying short fits = trying_tells short fits.0
-  write_tells stages.Closing short fits = closing_tells fits.0
+  write_tells stages.Exit short fits = exit_tells fits.0
   write_tells stages.Ended short fits = inr (m.outcome, (answered z u ps m r qs v m.outcome refl fits).tells)
 
 insert_tells : (k : ArrayVec ℕ) (value : ℕ) (o : WriteOutcome) → told_by (Insert k value) (of_write o) ≡ writes.told_by o job.Insert k value

@@ -5,7 +5,7 @@ use Rattle.std.specs.Option.{option_and_then, option_map}
 use Rattle.art_call.proofs.ArtAttempt.Free.{free_so}
 use Rattle.art_call.proofs.ArtAttempt.Finds.{finding_allowed}
 use Rattle.art_call.proofs.ArtAttempt.Given.{ask_looks}
-use Rattle.art_call.proofs.ArtAttempt.ArtGather.Asked.{naming_asks_look, reads_look, validate_asks_look}
+use Rattle.art_call.proofs.ArtAttempt.Asked.{naming_asks_look, reads_look, validate_asks_look}
 use Rattle.art_call.specs.ArtAttempt.Asking.{IsAllowed}
 use Rattle.art_call.specs.ArtAttempt.Attempts as attempts
 use Rattle.art_call.specs.ArtAttempt.Cases.{cells_of, demand_of}
@@ -20,9 +20,9 @@ use Rattle.art_cell.specs.declared.cells.Cell.TheVariants as cell
 use Rattle.art_cell.specs.declared.cells.Node.{Node}
 use Rattle.art_call.proofs.ArtFind.Allowed.{none_held}
 use Rattle.art_call.specs.ArtFind.Descents as descents
-use Rattle.art_call.specs.ArtGather.Reserve as reserve
-use Rattle.art_call.specs.ArtGather.declared.reserve.Reserve.{Reserve}
-use Rattle.art_call.specs.ArtGather.declared.reserve.Demand.{Demand}
+use Rattle.art_call.specs.ArtAttempt.Reserve as reserve
+use Rattle.art_call.specs.ArtAttempt.declared.reserve.Reserve.{Reserve}
+use Rattle.art_call.specs.ArtAttempt.declared.reserve.Demand.{Demand}
 use Rattle.art_call.proofs.ArtMake.Told.{map_some}
 use Rattle.art_call.specs.ArtMake.Apply as apply
 use Rattle.art_call.specs.ArtMake.Apply.{put_into, releases, so_many}

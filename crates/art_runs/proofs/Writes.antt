@@ -3,7 +3,7 @@ use Rattle.std.proofs.Common.{◌≡◌, ◌+◌, ◌<◌, ◌≤◌, ℕ, true,
 use Rattle.art_call.specs.ArtAttempt.declared.rooms.Room.{Room}
 use Rattle.art_call.specs.AsAsked.{WriteMakes}
 use Rattle.art_call.specs.ArtAttempt.Asking.{Answers, IsAllowed, given}
-use Rattle.art_call.proofs.ArtChange.FrameSteps.{IsFrame, closing_frame, opening_frame}
+use Rattle.art_call.proofs.ArtChange.FrameSteps.{IsFrame, exit_frame, enter_frame}
 use Rattle.art_call.specs.ArtChange.Writes.{Fits, StageFits, asks_at, deed_at, left_at, steps_left}
 use Rattle.art_call.specs.ArtAttempt.Attempts as attempts
 use Rattle.art_call.specs.ArtAttempt.declared.attempts.Attempt.{Attempt}
@@ -11,11 +11,11 @@ use Rattle.art_call.specs.ArtChange.declared.writes.Stage.{Stage}
 use Rattle.art_call.specs.ArtChange.declared.writes.Stage.TheVariants as stage
 use Rattle.art_call.specs.ArtChange.declared.writes.Write.{Write}
 use Rattle.art_epoch.specs.declared.limbo.Place.{Place}
-use Rattle.art_call.specs.ArtFrame.Closings as closings
-use Rattle.art_call.specs.ArtFrame.Stocks.{count_in, one_of}
-use Rattle.art_call.specs.ArtFrame.declared.closings.Closing.{Closing}
-use Rattle.art_call.specs.ArtFrame.declared.closings.Closing.TheVariants.{Labelling, Giving, Ended}
-use Rattle.art_call.specs.ArtFrame.declared.stocks.Stock.{Stock}
+use Rattle.art_call.specs.ArtEpoch.Exit as exits
+use Rattle.art_call.specs.ArtEpoch.Stocks.{count_in, one_of}
+use Rattle.art_call.specs.ArtEpoch.declared.exit.Exit.{Exit}
+use Rattle.art_call.specs.ArtEpoch.declared.exit.Exit.TheVariants.{Labelling, Giving, Ended}
+use Rattle.art_call.specs.ArtEpoch.declared.stocks.Stock.{Stock}
 use Rattle.art_machine.specs.declared.actions.Action.{Action}
 use Rattle.art_machine.specs.declared.actions.Answer.{Answer}
 use Rattle.art_runs.proofs.Calm.{IsMoment, calm_current, frame_calm}
@@ -47,10 +47,10 @@ count_few s =
     let e = one_few s.node256 in
     omega (arith, a, b, c, d, e)
 
-closing_few : (c : Closing) (s : Stock) → closings.steps_left c s ≤ 7
-closing_few Labelling s = let few = count_few s in omega (arith, few)
-closing_few Giving s = let few = count_few s in omega (arith, few)
-closing_few Ended s = omega arith
+exit_few : (c : Exit) (s : Stock) → exits.steps_left c s ≤ 7
+exit_few Labelling s = let few = count_few s in omega (arith, few)
+exit_few Giving s = let few = count_few s in omega (arith, few)
+exit_few Ended s = omega arith
 
 -- ---- a step of a write, of a call that began with the view u and met no failure yet
 
@@ -87,7 +87,7 @@ module _ (z : Sizes) (p : ℕ) (m : Memory) (f : Views) (m' : Memory) (f' : View
 
       module _ (ps qs : List Place) (n : Write) where
         write_goes : (s : Stage) → StageFits z u ps s n r qs v → (v.own ≡ u.own → 582 < left_at s n r qs → AreCurrent m v) → asks_at s n r qs ≡ Some a → Goes (left_at s n r qs)
-        write_goes stage.Opening fits current is = frame_goes (left_at stage.Opening n r qs) (opening_frame n.opening qs a is) current
+        write_goes stage.Enter fits current is = frame_goes (left_at stage.Enter n r qs) (enter_frame n.enter qs a is) current
         write_goes stage.Trying fits current is =
             let t = fits.0 in
             let first = t.frame.later in
@@ -96,9 +96,9 @@ module _ (z : Sizes) (p : ℕ) (m : Memory) (f : Views) (m' : Memory) (f' : View
             let opened = ap (λ (x : View). x.failures) t.frame.frame.is in
             let own : t.began.own ≡ u.own = ap (λ (o : Rest). o.own) t.begun.base.rest ∙ ap (λ (x : View). x.own) t.frame.frame.is in
             attempt_goes t.began n.attempt n.left (omega (arith, first, later)) (omega (arith, more, opened)) own t.fits fits.1 is current
-        write_goes stage.Closing fits current is =
-            let few = closing_few n.closing r.stock in
-            let g = frame_goes (closings.steps_left n.closing r.stock) (closing_frame n.closing r.stock a is) (λ own many. absurd (omega (arith, many, few))) in
+        write_goes stage.Exit fits current is =
+            let few = exit_few n.exit r.stock in
+            let g = frame_goes (exits.steps_left n.exit r.stock) (exit_frame n.exit r.stock a is) (λ own many. absurd (omega (arith, many, few))) in
             record { failures = g.failures; keeps = g.keeps }
         write_goes stage.Ended fits current is = absurd (cc)
 

@@ -10,7 +10,7 @@ use Rattle.art_call.specs.declared.outcomes.Outcome.{Outcome}
 use Rattle.art_call.specs.declared.outcomes.Outcome.TheVariants as outcome
 use Rattle.art_call.specs.ArtChange.Writes as writes
 use Rattle.art_epoch.specs.Limbo.{places_of}
-use Rattle.art_call.specs.ArtFrame.declared.openings.Blocker.{Blocker}
+use Rattle.art_call.specs.ArtEpoch.declared.enter.Blocker.{Blocker}
 use Rattle.art_runs.specs.OthersIdle.{AreCurrent, HasFound, IsAlone}
 use Rattle.art_step.specs.Sound.{IsSound}
 use Rattle.art_step.specs.Steps.{OneStep}

@@ -5,8 +5,8 @@ ghost use Rattle.art_step.specs.Views.{last_counter};
 
 use art_change::Outcome;
 use art_key::Key;
+use art_look::Outcome as Got;
 use art_runs::art_call::Caller;
-use art_seek::Outcome as Got;
 use art_step::Sizes;
 use art_world::World;
 use std::alloc::Global;

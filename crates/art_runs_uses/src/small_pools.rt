@@ -6,7 +6,7 @@ use crate::clients::{Client, check_find, check_put, opened};
 use crate::rows::{empties, fills, key_of};
 use art_cell::{Cell, Layout, Node, Pool};
 use art_change::Outcome;
-use art_seek::Outcome as Got;
+use art_look::Outcome as Got;
 use art_step::Sizes;
 use art_world::World;
 use std::alloc::Global;

@@ -7,7 +7,7 @@ use crate::clients::{asks, caller_of, check_find, last_of, opened, puts, takes};
 use crate::closing::{Closed, Counts, POOLS, ended};
 use art_call::Caller;
 use art_change::Outcome;
-use art_seek::Outcome as Got;
+use art_look::Outcome as Got;
 use art_shared::{Pass, Shared};
 use art_step::Sizes;
 use std::alloc::AllocError;

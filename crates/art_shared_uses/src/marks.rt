@@ -5,7 +5,7 @@ ghost use Rattle.art_shared_uses.specs.Clients.{IsNew};
 
 use crate::clients::{caller_of, check_find, check_put, last_of, opened};
 use art_change::Outcome;
-use art_seek::Outcome as Got;
+use art_look::Outcome as Got;
 use art_shared::{Mark, Pass, Shared};
 use art_step::Sizes;
 use std::process::Abort;

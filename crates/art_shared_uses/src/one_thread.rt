@@ -8,7 +8,7 @@ use crate::closing::ended;
 use art_call::Caller;
 use art_cell::{Cell, Pool};
 use art_change::Outcome;
-use art_seek::Outcome as Got;
+use art_look::Outcome as Got;
 use art_shared::{Pass, Shared};
 use art_step::Sizes;
 use std::alloc::Global;

@@ -7,7 +7,7 @@ use crate::clients::{caller_of, check_find, check_put, last_of, opened};
 use crate::closing::ended;
 use art_cell::Pool;
 use art_change::Outcome;
-use art_seek::Outcome as Got;
+use art_look::Outcome as Got;
 use art_shared::{Pass, Shared};
 use art_step::Sizes;
 use std::alloc::AllocError;

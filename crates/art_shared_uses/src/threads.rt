@@ -7,7 +7,7 @@ use crate::closing::{ended, with_last};
 use art_call::Caller;
 use art_cell::Cell;
 use art_change::Outcome;
-use art_seek::Outcome as Got;
+use art_look::Outcome as Got;
 use art_shared::{Pass, Shared};
 use art_step::Sizes;
 use std::process::Abort;

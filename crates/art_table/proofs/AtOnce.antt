@@ -14,8 +14,8 @@ use Rattle.art_key.specs.Spelling.{IsKeyOf, IsSpelling}
 use Rattle.art_key.specs.declared.columns.Column.{Column}
 use Rattle.art_look.specs.declared.looks.Seen.{Seen as KeySeen}
 use Rattle.art_model.specs.Rows.{Tuple}
-use Rattle.art_seek.specs.declared.walks.Outcome.{Outcome as SeekOutcome}
-use Rattle.art_seek.specs.declared.walks.Outcome.TheVariants as seek
+use Rattle.art_look.specs.declared.walks.Outcome.{Outcome as SeekOutcome}
+use Rattle.art_look.specs.declared.walks.Outcome.TheVariants as seek
 use Rattle.art_shared.proofs.Lent.{lent_passes_stay}
 use Rattle.art_shared.specs.SamePass.{SamePass}
 use Rattle.art_shared.specs.Stepper.{OnlyStepped, basis_of, pass_of, schema_of, sizes_of}

@@ -9,7 +9,7 @@ use Rattle.art_key.specs.declared.events.Event.{Event}
 use Rattle.art_key.specs.declared.faults.ValueFault.{ValueFault}
 use Rattle.art_shared.specs.SamePass.{SamePass}
 use Rattle.art_shared.specs.Tables as shared
-use Rattle.art_seek.specs.Sought.{HasSpent}
+use Rattle.art_look.specs.Sought.{HasSpent}
 use Rattle.art_table.specs.Jobs.{HasRange, IsRange, job_fault, result_of, told_by, wish_of}
 use Rattle.art_table.specs.Tables.{IsPassOf, caller_of, number_of, own_of, schema_in, seen_by, sizes_in, turns_left_by, view_of}
 use Rattle.art_table.specs.declared.attempts.Attempt.{Attempt}

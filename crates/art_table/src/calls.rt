@@ -16,9 +16,8 @@ ghost use Rattle.art_typed.specs.Typed.{row_of};
 use crate::{Fault, Pass, Table};
 use art_call::WriteOutcome;
 use art_key::{Bound, Key, Schema, decode_into, encode};
-use art_look::Seen;
+use art_look::{Outcome as SeekOutcome, Seen};
 use art_model::{Row, Tuple};
-use art_seek::Outcome as SeekOutcome;
 
 /// What an insert did.
 #[derive(Clone, Copy, Debug, PartialEq, Eq)]

@@ -1,6 +1,6 @@
 //! Why a call was refused.
 use art_cell::{Cell, Pool};
-use art_frame::Blocker;
+use art_epoch::Blocker;
 use art_key::ValueFault;
 use art_model::NoMemory;
 use art_refusal::Refusal;

@@ -6,7 +6,7 @@ use crate::attempts::{begun, finished, stepped};
 use crate::tables::{
     SIZES, check_count, check_put, check_take, closed_by_two, last_of, opened, tuple_of,
 };
-use art_frame::Blocker;
+use art_epoch::Blocker;
 use art_step::StepKind;
 use art_table::{Attempt, Fault, Inserted, Job, Outcome, Pass, Progress, Table};
 use std::process::Abort;

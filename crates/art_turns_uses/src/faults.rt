@@ -1,6 +1,6 @@
 //! The refusals that faults are, and the words that people read.
 use art_cell::{Cell, Layout, Node, Pool};
-use art_frame::Blocker;
+use art_epoch::Blocker;
 use art_key::ValueFault;
 use art_refusal::Refusal;
 use art_scan::ScanFault;

@@ -5,7 +5,7 @@ use Rattle.art_call.specs.declared.callers.Caller.{Caller}
 use Rattle.art_change.proofs.Newcomers.{newcomer_at, newcomer_fresh}
 use Rattle.art_change.specs.Writes.{IsFresh, IsReady}
 use Rattle.art_epoch.specs.declared.limbo.Place.{Place}
-use Rattle.art_frame.specs.declared.stocks.Stock.{Stock}
+use Rattle.art_epoch.specs.declared.stocks.Stock.{Stock}
 use Rattle.art_step.specs.WordRows.{view_at}
 use Rattle.art_step.specs.declared.views.Sizes.{Sizes}
 use Rattle.art_step.specs.declared.views.View.{View}

@@ -4,8 +4,7 @@ ghost use Rattle.art_step.specs.WordPlaces.{HasFreeWord};
 
 use crate::worlds::opened;
 use art_cell::{Link, Pool};
-use art_epoch::{Taking, advance, give, take};
-use art_frame::Stock;
+use art_epoch::{Stock, Taking, advance, give, take};
 use art_machine::perform;
 use art_step::{EpochSteps, Number, Sizes, spent};
 use art_world::World;

@@ -5,7 +5,7 @@ ghost use Rattle.art_world.specs.Stepper.{OnlyStepped, sizes_of, view_of};
 use crate::keys::key_of;
 use crate::worlds::{ONE_PASS, caller_of, opened};
 use art_call::Caller;
-use art_seek::Outcome;
+use art_look::Outcome;
 use art_world::Stepper;
 use std::process::Abort;
 use std::test::*;

@@ -3,7 +3,7 @@ use Rattle.art_call.proofs.SoughtSteps.{sought_any, sought_step}
 use Rattle.art_call.proofs.driver.made_by_seek.Goals as goal
 use Rattle.art_call.specs.Kinds.{IsStep}
 use Rattle.art_call.specs.Made.{MakesAny}
-use Rattle.art_seek.specs.Walks.{Settles}
+use Rattle.art_look.specs.Walks.{Settles}
 use Rattle.art_step.specs.declared.step_kinds.StepKind.{StepKind}
 
 pub returns : goal.returns

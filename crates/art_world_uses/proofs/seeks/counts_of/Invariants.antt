@@ -2,9 +2,9 @@
 use Rattle.std.proofs.Common.{◌≡◌}
 use Rattle.art_key.specs.declared.bounds.Bound.TheVariants.{End}
 use Rattle.art_world_uses.proofs.seeks.counts_of.Given as goal
-use Rattle.art_seek.specs.Seeks.{Fits, steps_left}
-use Rattle.art_seek.specs.Walks.{aim_of}
-use Rattle.art_seek.specs.declared.walks.Aim.TheVariants.{Key}
+use Rattle.art_look.specs.Seeks.{Fits, steps_left}
+use Rattle.art_look.specs.Walks.{aim_of}
+use Rattle.art_look.specs.declared.walks.Aim.TheVariants.{Key}
 
 abbrev pub invariant-loop-seek : goal.invariant-loop-seek
 invariant-loop-seek g l = record {

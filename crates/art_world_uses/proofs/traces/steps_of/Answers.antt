@@ -4,7 +4,7 @@ use Rattle.art_attempt.specs.Attempts.{IsRoom}
 use Rattle.art_change.specs.Writes.{IsReady}
 use Rattle.art_world_uses.proofs.traces.steps_of.Goals as goal
 use Rattle.art_epoch.specs.Limbo.{places_of}
-use Rattle.art_frame.specs.declared.stocks.Stock.{Stock}
+use Rattle.art_epoch.specs.declared.stocks.Stock.{Stock}
 use Rattle.art_world.specs.Stepper.{sizes_of, view_of}
 
 pub run-requires-clause-room : goal.run-requires-clause-room

@@ -1,12 +1,12 @@
 use Rattle.std.proofs.Common.{◌∙◌, inl, sym, subst, arith}
 use Rattle.art_attempt.proofs.Tries.{later_first}
 use Rattle.art_attempt.proofs.Finds.{within_more}
-use Rattle.art_attempt.proofs.Cells.{stands_begins}
+use Rattle.art_attempt.proofs.CaseCells.{stands_begins}
 use Rattle.art_attempt.proofs.attempts.Attempt.choose.Goals as goal
 use Rattle.art_attempt.specs.Cases.{IsCaseOf}
 use Rattle.art_attempt.specs.declared.attempts.Job.{Job}
 use Rattle.art_attempt.specs.declared.cases.Case.TheVariants.{DropLeaf, Shrink}
-use Rattle.art_gather.proofs.Validates.{here_begins}
+use Rattle.art_attempt.proofs.Validates.{here_begins}
 
 pub read_on-requires : goal.read_on-requires
 read_on-requires c = c.requires.5

@@ -1,4 +1,4 @@
-use Rattle.art_attempt.proofs.Cells.{stands_begins}
+use Rattle.art_attempt.proofs.CaseCells.{stands_begins}
 use Rattle.art_attempt.proofs.Chosen.{merges_node}
 use Rattle.art_attempt.proofs.Tries.{later_first}
 use Rattle.art_attempt.proofs.attempts.Attempt.name.Goals as goal

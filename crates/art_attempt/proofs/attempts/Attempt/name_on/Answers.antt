@@ -2,7 +2,7 @@ use Rattle.std.proofs.Common.{◌∙◌, Some, ap, sym}
 use Rattle.art_attempt.proofs.Names.{naming_at}
 use Rattle.art_attempt.proofs.attempts.Attempt.name_on.Goals as goal
 use Rattle.art_attempt.specs.declared.attempts.Stage.TheVariants as stages
-use Rattle.art_gather.specs.declared.naming.Named.{Named}
+use Rattle.art_attempt.specs.declared.naming.Named.{Named}
 
 pub returns-in-None-clause-fits : goal.returns-in-None-clause-fits
 returns-in-None-clause-fits c z u v room h =

@@ -2,7 +2,7 @@ use Rattle.art_attempt.proofs.Names.{name_changed_by, naming_on}
 use Rattle.art_attempt.proofs.Steps.{cell_later}
 use Rattle.art_attempt.proofs.attempts.Attempt.name_told.Goals as goal
 use Rattle.art_attempt.specs.Attempts.{deed_at}
-use Rattle.art_gather.proofs.Asked.{naming_asks_look}
+use Rattle.art_attempt.proofs.Asked.{naming_asks_look}
 
 pub returns-clause-fits : goal.returns-clause-fits
 returns-clause-fits c z u v w asked room h is row =

@@ -1,15 +1,15 @@
 use Rattle.std.proofs.Common.{◌≡◌, ◌∙◌, Some, ap, sym, subst}
-use Rattle.art_attempt.proofs.Cells.{stands_begins}
+use Rattle.art_attempt.proofs.CaseCells.{stands_begins}
 use Rattle.art_attempt.proofs.Names.{named_as, naming_changed, naming_so}
 use Rattle.art_attempt.proofs.attempts.Attempt.named.Goals as goal
 use Rattle.art_attempt.specs.Cases.{IsCaseOf}
 use Rattle.art_attempt.specs.declared.attempts.Job.{Job}
 use Rattle.art_attempt.specs.declared.cases.Case.TheVariants.{MergeNode}
-use Rattle.art_gather.specs.Naming.{StageFits, ended_at}
-use Rattle.art_gather.specs.declared.naming.Named.{Named}
-use Rattle.art_gather.specs.declared.naming.Named.TheVariants.{Unchanged}
-use Rattle.art_gather.specs.declared.naming.Naming.{Naming}
-use Rattle.art_gather.specs.declared.naming.Naming.TheVariants.{Ended}
+use Rattle.art_attempt.specs.Naming.{StageFits, ended_at}
+use Rattle.art_attempt.specs.declared.naming.Named.{Named}
+use Rattle.art_attempt.specs.declared.naming.Named.TheVariants.{Unchanged}
+use Rattle.art_attempt.specs.declared.naming.Naming.{Naming}
+use Rattle.art_attempt.specs.declared.naming.Naming.TheVariants.{Ended}
 use Rattle.art_plan.specs.declared.choose_remove.lowers.Lower.{Lower}
 
 pub returns-in-Unchanged-clause-fits : goal.returns-in-Unchanged-clause-fits

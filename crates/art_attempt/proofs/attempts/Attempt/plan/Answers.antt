@@ -1,5 +1,5 @@
 use Rattle.std.proofs.Common.{refl, subst}
-use Rattle.art_attempt.proofs.Cells.{seen_here}
+use Rattle.art_attempt.proofs.CaseCells.{seen_here}
 use Rattle.art_attempt.proofs.attempts.Attempt.plan.Goals as goal
 use Rattle.art_attempt.specs.Attempts.{IsKnown}
 use Rattle.art_attempt.specs.declared.cases.Case.{Case as CaseOf}

@@ -1,5 +1,5 @@
 use Rattle.std.proofs.Common.{ap, refl, sym, subst}
-use Rattle.art_attempt.proofs.Cells.{below_merges, below_seen, below_still, gone_standing, seen_both, seen_here, validated_locks, validated_so, validated_stood}
+use Rattle.art_attempt.proofs.CaseCells.{below_merges, below_seen, below_still, gone_standing, seen_both, seen_here, validated_locks, validated_so, validated_stood}
 use Rattle.art_attempt.proofs.Chosen.{goes_remove}
 use Rattle.art_attempt.proofs.Commits.{leaf_may}
 use Rattle.art_attempt.proofs.attempts.Attempt.plan_lowers.Goals as goal

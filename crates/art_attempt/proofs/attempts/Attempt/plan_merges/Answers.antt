@@ -1,5 +1,5 @@
 use Rattle.std.proofs.Common.{refl, ap, sym, subst}
-use Rattle.art_attempt.proofs.Cells.{gone_standing, seen_both, seen_here, validated_locks, validated_so, validated_stood}
+use Rattle.art_attempt.proofs.CaseCells.{gone_standing, seen_both, seen_here, validated_locks, validated_so, validated_stood}
 use Rattle.art_attempt.proofs.Commits.{leaf_may}
 use Rattle.art_attempt.proofs.Chosen.{goes_remove}
 use Rattle.art_attempt.proofs.attempts.Attempt.plan_merges.Goals as goal

@@ -1,5 +1,5 @@
 use Rattle.std.proofs.Common.{◌∙◌, ap, sym, subst}
-use Rattle.art_attempt.proofs.Cells.{leaf_ready, node_ready, seen_new, validated_locks, validated_so, validated_standing, validated_stood}
+use Rattle.art_attempt.proofs.CaseCells.{leaf_ready, node_ready, seen_new, validated_locks, validated_so, validated_standing, validated_stood}
 use Rattle.art_attempt.proofs.Chosen.{comes_insert}
 use Rattle.art_attempt.proofs.attempts.Attempt.plan_new.Goals as goal
 use Rattle.art_attempt.specs.Attempts.{GoesBy, IsKnown}

@@ -1,5 +1,5 @@
 use Rattle.std.proofs.Common.{ap, sym, subst}
-use Rattle.art_attempt.proofs.Cells.{gone_standing, seen_both, smaller_ready, validated_locks, validated_so, validated_stood}
+use Rattle.art_attempt.proofs.CaseCells.{gone_standing, seen_both, smaller_ready, validated_locks, validated_so, validated_stood}
 use Rattle.art_attempt.proofs.Commits.{leaf_may}
 use Rattle.art_attempt.proofs.Chosen.{goes_remove}
 use Rattle.art_attempt.proofs.attempts.Attempt.plan_shrinks.Goals as goal

@@ -3,7 +3,7 @@ use Rattle.std.proofs.Common.{◌∙◌, sym, subst, arith}
 use Rattle.std.specs.Prelude.{⊤}
 use Rattle.art_attempt.proofs.Stages.{reads_on, same_on}
 use Rattle.art_attempt.specs.Attempts.{Fits, deed_at}
-use Rattle.art_gather.proofs.Asked.{reads_look}
+use Rattle.art_attempt.proofs.Asked.{reads_look}
 use Rattle.art_find.specs.Asking.{MayLook}
 use Rattle.art_machine.proofs.Counting.{look_counts}
 use Rattle.art_machine.specs.Acting.{Answers, telling}

@@ -1,5 +1,5 @@
 use Rattle.std.proofs.Common.{arith}
-use Rattle.art_attempt.proofs.Cells.{reading_so}
+use Rattle.art_attempt.proofs.CaseCells.{reading_so}
 use Rattle.art_attempt.proofs.attempts.Attempt.read_on.Goals as goal
 use Rattle.art_find.specs.ReadSets.{node_of}
 

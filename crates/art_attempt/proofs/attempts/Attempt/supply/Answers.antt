@@ -2,9 +2,9 @@ use Rattle.std.proofs.Common.{◌≡◌, ◌∙◌, ap, sym, subst}
 use Rattle.art_attempt.proofs.Chosen.{wants_same}
 use Rattle.art_attempt.proofs.attempts.Attempt.supply.Goals as goal
 use Rattle.art_attempt.specs.Cases.{demand_of}
-use Rattle.art_frame.specs.Stocks.{HasStock}
-use Rattle.art_gather.specs.Reserve.{Fits as SupplyFits}
-use Rattle.art_gather.specs.declared.reserve.Demand.{Demand}
+use Rattle.art_epoch.specs.Stocks.{HasStock}
+use Rattle.art_attempt.specs.Reserve.{Fits as SupplyFits}
+use Rattle.art_attempt.specs.declared.reserve.Demand.{Demand}
 use Rattle.art_step.specs.declared.views.Sizes.{Sizes as SizesOf}
 
 pub new-self-requires : goal.new-self-requires

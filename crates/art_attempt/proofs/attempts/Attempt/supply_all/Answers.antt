@@ -7,8 +7,8 @@ use Rattle.art_attempt.specs.declared.attempts.Attempt.{Attempt}
 use Rattle.art_attempt.specs.declared.attempts.Stage.{Stage}
 use Rattle.art_attempt.specs.declared.attempts.Stage.TheVariants.{Reserve}
 use Rattle.art_attempt.specs.declared.rooms.Room.{Room}
-use Rattle.art_gather.specs.Reserve.{Fits as SupplyFits}
-use Rattle.art_gather.specs.declared.reserve.Demand.{Demand}
+use Rattle.art_attempt.specs.Reserve.{Fits as SupplyFits}
+use Rattle.art_attempt.specs.declared.reserve.Demand.{Demand}
 use Rattle.art_step.specs.declared.views.Sizes.{Sizes}
 use Rattle.art_step.specs.declared.views.View.{View}
 use Rattle.art_attempt.proofs.attempts.Attempt.supply_all.Goals as goal

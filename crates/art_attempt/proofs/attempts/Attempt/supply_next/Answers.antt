@@ -1,11 +1,11 @@
 use Rattle.std.proofs.Common.{◌≡◌, ◌∙◌, List, ℕ, sym, refl, subst, Option, Some, None}
 use Rattle.std.specs.Prelude.{IfSome}
 use Rattle.art_attempt.proofs.Given.{plain_may, supply_plain}
-use Rattle.art_gather.proofs.Asked.{supply_asks_supply}
+use Rattle.art_attempt.proofs.Asked.{supply_asks_supply}
 use Rattle.art_attempt.proofs.attempts.Attempt.supply_next.Goals as goal
 use Rattle.art_attempt.specs.Asking.{IsAllowed}
 use Rattle.art_attempt.specs.Cases.{demand_of}
-use Rattle.art_gather.specs.Reserve.{Fits as SupplyFits, asks}
+use Rattle.art_attempt.specs.Reserve.{Fits as SupplyFits, asks}
 use Rattle.art_machine.specs.declared.actions.Action.{Action}
 use Rattle.art_machine.specs.Acting as acting
 

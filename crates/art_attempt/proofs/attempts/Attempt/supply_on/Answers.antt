@@ -1,11 +1,11 @@
 use Rattle.std.proofs.Common.{◌∙◌, Option, ap, sym, subst, Some, arith}
 use Rattle.art_attempt.proofs.Chosen.{none_below}
 use Rattle.art_attempt.proofs.Finds.{within_more}
-use Rattle.art_gather.specs.Validate.{BelowFits}
+use Rattle.art_attempt.specs.Validate.{BelowFits}
 use Rattle.art_plan.specs.declared.choose_remove.lowers.Lower.{Lower}
 use Rattle.art_attempt.proofs.Numbers.{supplies_known, supplies_so, supplies_standing}
 use Rattle.art_attempt.proofs.attempts.Attempt.supply_on.Goals as goal
-use Rattle.art_gather.specs.declared.reserve.Reserved.{Reserved}
+use Rattle.art_attempt.specs.declared.reserve.Reserved.{Reserved}
 
 pub returns-in-Some-Ready-clause-fits : goal.returns-in-Some-Ready-clause-fits
 returns-in-Some-Ready-clause-fits c z u v room h =

@@ -2,8 +2,8 @@ use Rattle.std.proofs.Common.{◌≡◌, ◌∙◌, ap, subst, sym}
 use Rattle.art_attempt.proofs.attempts.Attempt.supply_told.Goals as goal
 use Rattle.art_attempt.proofs.Chosen.{wants_same}
 use Rattle.art_attempt.specs.Cases.{demand_of}
-use Rattle.art_gather.specs.Reserve.{Fits as SupplyFits}
-use Rattle.art_gather.specs.declared.reserve.Demand.{Demand}
+use Rattle.art_attempt.specs.Reserve.{Fits as SupplyFits}
+use Rattle.art_attempt.specs.declared.reserve.Demand.{Demand}
 use Rattle.art_step.specs.declared.views.Sizes.{Sizes as SizesOf}
 
 pub returns-clause-fits : goal.returns-clause-fits

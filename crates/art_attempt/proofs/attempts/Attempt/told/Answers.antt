@@ -1,6 +1,6 @@
 use Rattle.std.proofs.Common.{◌∙◌, ◌-◌, ◌<◌, ap, sym, subst}
 use Rattle.art_attempt.proofs.Given.{ask_looks, look_once, look_row, made_row, plain_row, supply_once, supply_plain}
-use Rattle.art_gather.proofs.Asked.{naming_asks_look, reads_look, supply_asks_supply, validate_asks_look}
+use Rattle.art_attempt.proofs.Asked.{naming_asks_look, reads_look, supply_asks_supply, validate_asks_look}
 use Rattle.art_make.proofs.Keeping.{asks_made}
 use Rattle.art_attempt.specs.Asking.{given}
 use Rattle.art_attempt.proofs.Finds.{finding_allowed}

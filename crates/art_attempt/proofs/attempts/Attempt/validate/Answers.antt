@@ -1,9 +1,9 @@
 use Rattle.std.proofs.Common.{subst, sym}
-use Rattle.art_attempt.proofs.Cells.{stands_begins}
+use Rattle.art_attempt.proofs.CaseCells.{stands_begins}
 use Rattle.art_attempt.proofs.Tries.{later_first}
 use Rattle.art_attempt.proofs.attempts.Attempt.validate.Goals as goal
-use Rattle.art_gather.specs.Validate.{BelowFits, Fits as ValidateFits}
-use Rattle.art_gather.specs.declared.validate.Cells.{Cells}
+use Rattle.art_attempt.specs.Validate.{BelowFits, Fits as ValidateFits}
+use Rattle.art_attempt.specs.declared.validate.Cells.{Cells}
 
 pub returns-clause-fits : goal.returns-clause-fits
 returns-clause-fits c z u v room so of standing known below =

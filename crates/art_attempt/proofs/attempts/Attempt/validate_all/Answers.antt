@@ -1,9 +1,9 @@
 -- The validation runs, and what it came to is looked at.
 use Rattle.std.proofs.Common.{sym, subst, arith}
-use Rattle.art_attempt.proofs.Cells.{validating_on}
+use Rattle.art_attempt.proofs.CaseCells.{validating_on}
 use Rattle.art_attempt.proofs.attempts.Attempt.validate_all.Goals as goal
-use Rattle.art_gather.specs.Validate.{Fits as ValidateFits}
-use Rattle.art_gather.specs.declared.validate.Cells.{Cells}
+use Rattle.art_attempt.specs.Validate.{Fits as ValidateFits}
+use Rattle.art_attempt.specs.declared.validate.Cells.{Cells}
 
 pub run-requires-clause-fits : goal.run-requires-clause-fits
 run-requires-clause-fits g c =

@@ -1,12 +1,12 @@
 use Rattle.std.proofs.Common.{◌≡◌, ◌∙◌, ap, sym, subst, Some}
-use Rattle.art_attempt.proofs.Cells.{validated_as, validating_at, validating_changed}
+use Rattle.art_attempt.proofs.CaseCells.{validated_as, validating_at, validating_changed}
 use Rattle.art_attempt.proofs.attempts.Attempt.validate_on.Goals as goal
 use Rattle.art_attempt.specs.Attempts.{IsValidating}
 use Rattle.art_attempt.specs.declared.attempts.Stage.TheVariants as stages
-use Rattle.art_gather.specs.Validate.{ended_at}
-use Rattle.art_gather.specs.declared.validate.Validate.{Validate}
-use Rattle.art_gather.specs.declared.validate.Validated.{Validated}
-use Rattle.art_gather.specs.declared.validate.Validated.TheVariants.{Unchanged, Changed}
+use Rattle.art_attempt.specs.Validate.{ended_at}
+use Rattle.art_attempt.specs.declared.validate.Validate.{Validate}
+use Rattle.art_attempt.specs.declared.validate.Validated.{Validated}
+use Rattle.art_attempt.specs.declared.validate.Validated.TheVariants.{Unchanged, Changed}
 
 pub plan-requires : goal.plan-requires
 plan-requires c =

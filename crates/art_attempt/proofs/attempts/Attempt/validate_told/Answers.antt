@@ -1,12 +1,12 @@
 use Rattle.std.proofs.Common.{ap, sym, subst, ◌∙◌}
-use Rattle.art_attempt.proofs.Cells.{changed_by, validating_on}
+use Rattle.art_attempt.proofs.CaseCells.{changed_by, validating_on}
 use Rattle.art_attempt.proofs.Steps.{cell_later}
 use Rattle.art_attempt.proofs.attempts.Attempt.validate_told.Goals as goal
 use Rattle.art_attempt.specs.Attempts.{deed_at}
 use Rattle.art_attempt.specs.Cases.{cells_of}
-use Rattle.art_gather.proofs.Asked.{look_found, validate_asks_look, validate_looks}
-use Rattle.art_gather.specs.Validate.{Fits as ValidateFits, asks}
-use Rattle.art_gather.specs.declared.validate.Cells.{Cells}
+use Rattle.art_attempt.proofs.Asked.{look_found, validate_asks_look, validate_looks}
+use Rattle.art_attempt.specs.Validate.{Fits as ValidateFits, asks}
+use Rattle.art_attempt.specs.declared.validate.Cells.{Cells}
 
 pub validate_on-requires : goal.validate_on-requires
 validate_on-requires c =

@@ -6,7 +6,7 @@ use Rattle.art_change.specs.ArtAttempt.Trying.{IsKey}
 use Rattle.art_change.specs.ArtAttempt.Attempts.{IsRoom}
 use Rattle.art_change.specs.Writes.{IsReady}
 use Rattle.art_epoch.specs.Limbo.{places_of}
-use Rattle.art_frame.specs.declared.stocks.Stock.{Stock}
+use Rattle.art_epoch.specs.declared.stocks.Stock.{Stock}
 
 pub returns-clause-calling : goal.returns-clause-calling
 returns-clause-calling c z u may =

@@ -3,8 +3,8 @@ use Rattle.std.specs.Option.{option_map}
 use Rattle.art_call.proofs.callers.Caller.finish.Goals as goal
 use Rattle.art_call.specs.Outcomes.{of_seek, of_write}
 use Rattle.art_change.specs.declared.writes.Outcome.{Outcome as WriteOutcome}
-use Rattle.art_seek.specs.Seeks.{seen_at}
-use Rattle.art_seek.specs.declared.walks.Outcome.{Outcome as SeekOutcome}
+use Rattle.art_look.specs.Seeks.{seen_at}
+use Rattle.art_look.specs.declared.walks.Outcome.{Outcome as SeekOutcome}
 
 pub returns-in-Write-clause-ended : goal.returns-in-Write-clause-ended
 returns-in-Write-clause-ended g c =

@@ -3,7 +3,7 @@ use Rattle.art_call.proofs.Sought.{get_called}
 use Rattle.art_call.proofs.callers.Caller.get.Goals as goal
 use Rattle.art_call.specs.declared.callers.Caller.{Caller}
 use Rattle.art_key.specs.declared.bounds.Bound.TheVariants.{End}
-use Rattle.art_seek.specs.Seeks.{Fits}
+use Rattle.art_look.specs.Seeks.{Fits}
 
 pub finish-requires-clause-fits : goal.finish-requires-clause-fits
 finish-requires-clause-fits g c =

@@ -5,9 +5,9 @@ use Rattle.art_call.specs.Calls.{HasCalled, Look}
 use Rattle.art_call.specs.Outcomes.{of_look}
 use Rattle.art_call.specs.declared.callers.Call.TheVariants as call
 use Rattle.art_call.specs.declared.callers.Caller.{Caller}
-use Rattle.art_seek.specs.ArtLook.declared.looks.Seen.{Seen}
-use Rattle.art_seek.specs.Seeks.{Fits, seen_by}
-use Rattle.art_seek.specs.declared.walks.Outcome.{Outcome}
+use Rattle.art_look.specs.declared.looks.Seen.{Seen}
+use Rattle.art_look.specs.Seeks.{Fits, seen_by}
+use Rattle.art_look.specs.declared.walks.Outcome.{Outcome}
 
 pub finish-requires-clause-fits : goal.finish-requires-clause-fits
 finish-requires-clause-fits g c =

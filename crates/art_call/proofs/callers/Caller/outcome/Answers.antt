@@ -6,8 +6,8 @@ use Rattle.art_call.specs.Calls.{GoesOn, HasCalled, restarts_in, restarts_of}
 use Rattle.art_call.specs.Outcomes.{of_seek, of_write}
 use Rattle.art_call.specs.declared.callers.Call.{Call}
 use Rattle.art_call.specs.declared.outcomes.Outcome.{Outcome}
-use Rattle.art_seek.specs.ArtLook.declared.looks.Seen.{Seen}
-use Rattle.art_seek.specs.Seeks.{seen_at}
+use Rattle.art_look.specs.declared.looks.Seen.{Seen}
+use Rattle.art_look.specs.Seeks.{seen_at}
 
 pub returns-in_ok-ended-in-Write-clause-called : goal.returns-in_ok-ended-in-Write-clause-called
 returns-in_ok-ended-in-Write-clause-called c z w given turns u v calling =

@@ -6,8 +6,8 @@ use Rattle.art_call.specs.Calls.{finds_overlap, stays_apart}
 use Rattle.art_call.specs.Outcomes.{of_seek, of_write}
 use Rattle.art_call.specs.declared.callers.Call.{Call}
 use Rattle.art_change.specs.declared.writes.Outcome.{Outcome as WriteOutcome}
-use Rattle.art_seek.specs.Seeks.{seen_at}
-use Rattle.art_seek.specs.declared.walks.Outcome.{Outcome as SeekOutcome}
+use Rattle.art_look.specs.Seeks.{seen_at}
+use Rattle.art_look.specs.declared.walks.Outcome.{Outcome as SeekOutcome}
 use Rattle.art_step.specs.Histories.{AreApart}
 
 some_there : {A : Type 0} (o : Option A) → is_some o ≡ true → (x : A) × (o ≡ Some x)

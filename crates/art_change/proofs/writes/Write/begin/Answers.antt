@@ -3,12 +3,12 @@ use Rattle.art_change.proofs.Frames.{begun_so, begun_tries}
 use Rattle.art_change.proofs.writes.Write.begin.Goals as goal
 
 pub returns-then-self-eq0-clause-left : goal.returns-then-self-eq0-clause-left
-returns-then-self-eq0-clause-left c first qs = let few = c.close.ensures.left qs in omega (arith, few)
+returns-then-self-eq0-clause-left c first qs = let few = c.begin_exit.ensures.left qs in omega (arith, few)
 
 pub returns-then-self-eq0-clause-fits : goal.returns-then-self-eq0-clause-fits
 returns-then-self-eq0-clause-fits c first z u opened v ps qs room frame begun has counted =
     let m = c.args.self.now in
-    c.close.ensures.fits z u opened v v ps qs room frame begun (record { job = first.job; fits = (begun_so z opened m.restarts v begun c.args.room.now has, c.if-self-eq0.true) }) counted
+    c.begin_exit.ensures.fits z u opened v v ps qs room frame begun (record { job = first.job; fits = (begun_so z opened m.restarts v begun c.args.room.now has, c.if-self-eq0.true) }) counted
 
 pub returns-clause-left : goal.returns-clause-left
 returns-clause-left c first qs =
@@ -34,7 +34,7 @@ returns-clause-fits c first z u opened v ps qs room frame begun has counted = re
 }
 
 pub returns-then-self-eq0-clause-overlaps : goal.returns-then-self-eq0-clause-overlaps
-returns-then-self-eq0-clause-overlaps c is = absurd (let no = sym c.close.ensures.outcome ∙ is in cc)
+returns-then-self-eq0-clause-overlaps c is = absurd (let no = sym c.begin_exit.ensures.outcome ∙ is in cc)
 
 pub returns-clause-overlaps : goal.returns-clause-overlaps
 returns-clause-overlaps c is = is

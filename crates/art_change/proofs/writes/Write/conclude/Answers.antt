@@ -6,7 +6,7 @@ use Rattle.art_change.proofs.writes.Write.conclude.Goals as goal
 pub returns-in-Some-clause-fits : goal.returns-in-Some-clause-fits
 returns-in-Some-clause-fits c z u opened began v ps qs room frame begun job fits counted =
     let m = c.args.self.now in
-    c.close.ensures.fits z u opened began v ps qs room frame begun
+    c.begin_exit.ensures.fits z u opened began v ps qs room frame begun
     (outcome_ends z began m.attempt c.args.room.now m.left v m.job job c.args.ending c.in-Some.outcome fits (sym c.outcome_of.ensures ∙ c.in-Some.is)) counted
 
 pub returns-in-None-clause-fits : goal.returns-in-None-clause-fits
@@ -19,7 +19,7 @@ returns-in-None-clause-fits c z u opened began v ps qs room frame begun job fits
     (begun_again z opened began v m.restarts c.saturating_add-self.result r begun anew.0 anew.1 (omega (arith, more))) anew.0.has counted
 
 pub returns-in-Some-clause-left : goal.returns-in-Some-clause-left
-returns-in-Some-clause-left c qs = let few = c.close.ensures.left qs in omega (arith, few)
+returns-in-Some-clause-left c qs = let few = c.begin_exit.ensures.left qs in omega (arith, few)
 
 pub returns-in-None-clause-left : goal.returns-in-None-clause-left
 returns-in-None-clause-left c qs =
@@ -28,14 +28,14 @@ returns-in-None-clause-left c qs =
     omega (arith, few, same)
 
 pub returns-in-Some-clause-restarts : goal.returns-in-Some-clause-restarts
-returns-in-Some-clause-restarts c = inl c.close.ensures.restarts
+returns-in-Some-clause-restarts c = inl c.begin_exit.ensures.restarts
 
 pub returns-in-None-clause-restarts : goal.returns-in-None-clause-restarts
 returns-in-None-clause-restarts c = inr (none_anew c.args.self.now.left c.args.ending (sym c.outcome_of.ensures ∙ c.in-None.is))
 
 pub returns-in-Some-clause-overlaps : goal.returns-in-Some-clause-overlaps
 returns-in-Some-clause-overlaps c is =
-    inr (outcome_overlaps c.args.self.now.left c.args.ending c.in-Some.outcome (sym c.outcome_of.ensures ∙ c.in-Some.is) (sym c.close.ensures.outcome ∙ is))
+    inr (outcome_overlaps c.args.self.now.left c.args.ending c.in-Some.outcome (sym c.outcome_of.ensures ∙ c.in-Some.is) (sym c.begin_exit.ensures.outcome ∙ is))
 
 pub returns-in-None-clause-overlaps : goal.returns-in-None-clause-overlaps
 returns-in-None-clause-overlaps c is = inl (c.go_on.ensures.overlaps is)

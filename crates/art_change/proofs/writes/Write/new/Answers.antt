@@ -1,7 +1,7 @@
 use Rattle.std.proofs.Common.{ℕ, ap, sym, subst, arith}
 use Rattle.art_attempt.proofs.Left.{tries_few}
 use Rattle.art_change.proofs.writes.Write.new.Goals as goal
-use Rattle.art_frame.specs.Openings.{MayOpen}
+use Rattle.art_epoch.specs.Enter.{MayOpen}
 use Rattle.art_epoch.specs.Limbo.{places_of}
 use Rattle.art_step.specs.declared.views.Sizes.{Sizes as SizesOf}
 

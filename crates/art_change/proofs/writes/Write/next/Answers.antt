@@ -4,17 +4,17 @@ use Rattle.art_change.specs.Writes.{StageFits, asks_at, deed_at}
 use Rattle.art_change.specs.declared.writes.Stage.{Stage as StageOf}
 use Rattle.art_epoch.specs.Limbo.{places_of}
 
-pub returns-in-Opening-clause-asks : goal.returns-in-Opening-clause-asks
-returns-in-Opening-clause-asks c =
+pub returns-in-Enter-clause-asks : goal.returns-in-Enter-clause-asks
+returns-in-Enter-clause-asks c =
     let m = c.args.self.now in
     let r = c.args.room.now in
-    c.open_next.ensures.asks r ∙ sym (ap (λ (s : StageOf). asks_at s m r (places_of c.args.limbo.now)) c.in-Opening.is)
+    c.enter_next.ensures.asks r ∙ sym (ap (λ (s : StageOf). asks_at s m r (places_of c.args.limbo.now)) c.in-Enter.is)
 
-pub returns-in-Opening-clause-allowed : goal.returns-in-Opening-clause-allowed
-returns-in-Opening-clause-allowed c z u v ps fits =
+pub returns-in-Enter-clause-allowed : goal.returns-in-Enter-clause-allowed
+returns-in-Enter-clause-allowed c z u v ps fits =
     let m = c.args.self.now in
     let r = c.args.room.now in
-    c.open_next.ensures.allowed z u v ps r (deed_at m r) (subst (λ (s : StageOf). StageFits z u ps s m r (places_of c.args.limbo.now) v) c.in-Opening.is fits.stage)
+    c.enter_next.ensures.allowed z u v ps r (deed_at m r) (subst (λ (s : StageOf). StageFits z u ps s m r (places_of c.args.limbo.now) v) c.in-Enter.is fits.stage)
 
 pub returns-in-Trying-clause-asks : goal.returns-in-Trying-clause-asks
 returns-in-Trying-clause-asks c =
@@ -23,19 +23,19 @@ returns-in-Trying-clause-asks c =
     let qs = places_of c.args.limbo.now in
     c.try_next.ensures.asks qs ∙ sym (ap (λ (s : StageOf). asks_at s m r qs) c.in-Trying.is)
 
-pub returns-in-Closing-clause-asks : goal.returns-in-Closing-clause-asks
-returns-in-Closing-clause-asks c =
+pub returns-in-Exit-clause-asks : goal.returns-in-Exit-clause-asks
+returns-in-Exit-clause-asks c =
     let m = c.args.self.now in
     let r = c.args.room.now in
     let qs = places_of c.args.limbo.now in
-    c.close_next.ensures.asks qs ∙ sym (ap (λ (s : StageOf). asks_at s m r qs) c.in-Closing.is)
+    c.exit_next.ensures.asks qs ∙ sym (ap (λ (s : StageOf). asks_at s m r qs) c.in-Exit.is)
 
-pub returns-in-Closing-clause-allowed : goal.returns-in-Closing-clause-allowed
-returns-in-Closing-clause-allowed c z u v ps fits =
+pub returns-in-Exit-clause-allowed : goal.returns-in-Exit-clause-allowed
+returns-in-Exit-clause-allowed c z u v ps fits =
     let m = c.args.self.now in
     let r = c.args.room.now in
     let qs = places_of c.args.limbo.now in
-    c.close_next.ensures.allowed z u v ps qs (deed_at m r) (subst (λ (s : StageOf). StageFits z u ps s m r qs v) c.in-Closing.is fits.stage).0
+    c.exit_next.ensures.allowed z u v ps qs (deed_at m r) (subst (λ (s : StageOf). StageFits z u ps s m r qs v) c.in-Exit.is fits.stage).0
 
 pub returns-in-Trying-clause-allowed : goal.returns-in-Trying-clause-allowed
 returns-in-Trying-clause-allowed c z u v ps fits =

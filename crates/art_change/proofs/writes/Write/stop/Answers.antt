@@ -13,4 +13,4 @@ returns-clause-fits c z u v ps qs fits =
     let first = t.begun.base.later.steps in
     let last = so.still.later.steps in
     let used = c.saturating_sub-self.ensures in
-    c.close.ensures.fits z u t.opened t.began v ps qs fits.room t.frame t.begun (record { job = t.job; fits = (so, refl) }) (omega (arith, counted, first, last, used))
+    c.begin_exit.ensures.fits z u t.opened t.began v ps qs fits.room t.frame t.begun (record { job = t.job; fits = (so, refl) }) (omega (arith, counted, first, last, used))

@@ -5,12 +5,12 @@ use Rattle.art_change.specs.declared.writes.Stage.{Stage as StageOf}
 use Rattle.art_change.specs.declared.writes.Stage.TheVariants.{Trying}
 
 pub returns-then-is_free-clause-left : goal.returns-then-is_free-clause-left
-returns-then-is_free-clause-left c qs = let few = c.close.ensures.left qs in omega (arith, few)
+returns-then-is_free-clause-left c qs = let few = c.begin_exit.ensures.left qs in omega (arith, few)
 
 pub returns-then-is_free-clause-fits : goal.returns-then-is_free-clause-fits
 returns-then-is_free-clause-fits c z u v ps qs room t =
     let so = c.is_free.ensures.free c.if-is_free.true t.going z t.began v c.args.room.now t.fits in
-    c.close.ensures.fits z u t.opened t.began v ps qs room t.frame t.begun (record { job = t.job; fits = (so, c.if-self-eq0.true) }) t.counted
+    c.begin_exit.ensures.fits z u t.opened t.began v ps qs room t.frame t.begun (record { job = t.job; fits = (so, c.if-self-eq0.true) }) t.counted
 
 pub returns-else-is_free-clause-left : goal.returns-else-is_free-clause-left
 returns-else-is_free-clause-left c qs =
@@ -45,4 +45,4 @@ returns-else-self-eq0-clause-fits c z u v ps qs room t =
     }
 
 pub returns-then-is_free-clause-overlaps : goal.returns-then-is_free-clause-overlaps
-returns-then-is_free-clause-overlaps c is = absurd (let no = sym c.close.ensures.outcome ∙ is in cc)
+returns-then-is_free-clause-overlaps c is = absurd (let no = sym c.begin_exit.ensures.outcome ∙ is in cc)

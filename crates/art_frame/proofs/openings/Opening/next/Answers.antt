@@ -1,5 +1,0 @@
-use Rattle.std.proofs.Common.{rules}
-use Rattle.art_frame.proofs.openings.Opening.next.Goals as goal
-
-pub returns-in-Pinning-clause-asks : goal.returns-in-Pinning-clause-asks
-returns-in-Pinning-clause-asks c = search rules

@@ -1,5 +1,0 @@
-use Rattle.std.proofs.Common.{refl}
-use Rattle.art_frame.proofs.stocks.Stock.spend_leaf.Goals as goal
-
-pub returns : goal.returns
-returns c = refl

@@ -1,9 +1,0 @@
-pub mod Asked
-mod LowerBegins
-pub mod LowerNames
-pub mod LowerSeen
-mod Rereads
-mod Spending
-pub mod Standing
-pub mod Supplies
-pub mod Validates
