@@ -10,6 +10,7 @@ use Rattle.art_attempt.specs.Cases.{HasLeaf, IsCaseOf, IsTold, LocksChecked, lea
 use Rattle.art_attempt.specs.Rooms.{spent_by}
 use Rattle.art_attempt.specs.Trying.{StoodAtCheck}
 use Rattle.art_attempt.specs.declared.attempts.Attempt.{Attempt}
+use Rattle.art_attempt.specs.declared.attempts.Stage.{Stage}
 use Rattle.art_attempt.specs.declared.attempts.Job.{Job}
 use Rattle.art_attempt.specs.declared.attempts.Job.TheVariants.{Insert, Remove}
 use Rattle.art_attempt.specs.declared.cases.Case.{Case}
@@ -72,9 +73,26 @@ made_admitted A Remove row gone is = is
 
 -- ---- it is made
 
-module _ (z : Sizes) (u : View) (m : Attempt) (r : Room) (v : View) (h : HasMade z u m r v) where
+module _ (z : Sizes) (u : View) (m : Attempt) (s : Apply) (r : Room) (v : View) (h : HasMade z u m s r v) where
+  -- at whatever stage it is said
+  pub making_at : (e : Stage) → HasMade z u (record m { stage = e }) s r v
+  making_at e = record {
+    early = h.early;
+    base = h.base;
+    later = h.later;
+    spent = h.spent;
+    case = h.case;
+    locks = h.locks;
+    goes = h.goes;
+    has = h.has;
+    plain = h.plain;
+    leaf = h.leaf;
+    deed = h.deed;
+    fits = h.fits;
+  }
+
   -- it goes on
-  pub made_on : (w : View) (next : Apply) → KeepsCheck v w → apply.Fits z r.change next h.early w → HasMade z u (record m { apply = next }) r w
+  pub made_on : (w : View) (next : Apply) → KeepsCheck v w → apply.Fits z r.change next h.early w → HasMade z u m next r w
   made_on w next keeps fits =
       let before = h.later.steps in
       let failed = h.later.failures in
@@ -98,9 +116,9 @@ module _ (z : Sizes) (u : View) (m : Attempt) (r : Room) (v : View) (h : HasMade
         fits = fits;
       }
 
-  module _ (made : Result ⊤ UpgradeFault) (is : apply.ended_at m.apply ≡ Some made) where
+  module _ (made : Result ⊤ UpgradeFault) (is : apply.ended_at s ≡ Some made) where
     over : IsOver h.early r.change made v
-    over = (ends_as z h.early v r.change m.apply made h.fits is).0
+    over = (ends_as z h.early v r.change s made h.fits is).0
 
     -- it is made
     pub change_written : made ≡ Ok tt → HasWritten z u m.job m.position m.case (record r { stock = spent_by r.change r.stock }) v
@@ -130,7 +148,7 @@ module _ (z : Sizes) (u : View) (m : Attempt) (r : Room) (v : View) (h : HasMade
           still = still_fails u h.early h.base v h.later r.change f failed over.free;
           spent = λ limited.
               let spent = h.spent limited in
-              let steps = (ends_as z h.early v r.change m.apply made h.fits is).1 in
+              let steps = (ends_as z h.early v r.change s made h.fits is).1 in
               let more = h.later.failures in
               omega (arith, spent, steps, more);
           has = stock_fails z r.row.key.items r.row.value h.early v r.stock r.change f failed h.has;

@@ -88,12 +88,12 @@ module _ (z : Sizes) (v w : View) where
 module _ (z : Sizes) (u : View) (m : Attempt) (r : Room) (v w : View) (a : Action) (answer : Answer) (row : Answers z (deed_at m r) r.change a answer v w) where
   made_at : (s : Stage) → StageFits z u s m r v → asks_at s m r ≡ Some a → w.steps ≡ v.steps + steps_in answer
   made_at stage.Finding fits is = look_made z v w (deed_at m r) r.change a answer row (ask_looks z (deed_at m r) v a (finding_allowed z u m r v fits a is))
-  made_at stage.Reserve fits is =
-      supply_made z v w (deed_at m r) r.change a answer row (demand_of z m.case m.position.verdict) r.row.key.items r.row.value r.stock fits.0.early m.reserve fits.0.fits is
+  made_at (stage.Reserve s) fits is =
+      supply_made z v w (deed_at m r) r.change a answer row (demand_of z m.case m.position.verdict) r.row.key.items r.row.value r.stock fits.0.early s fits.0.fits is
   made_at (stage.Validate s) fits is = look_made z v w (deed_at m r) r.change a answer row (validate_asks_look m.position (cells_of m.case m.position.verdict) s a is)
   made_at (stage.Reading q) fits is = look_made z v w (deed_at m r) r.change a answer row (reads_look m.position.stamp q a is)
   made_at (stage.Naming byte n s) fits is = look_made z v w (deed_at m r) r.change a answer row (naming_asks_look m.position s a is)
-  made_at stage.Apply fits is = change_made z v w (deed_at m r) r.change a answer row fits.0.early m.apply fits.0.fits is
+  made_at (stage.Apply s) fits is = change_made z v w (deed_at m r) r.change a answer row fits.0.early s fits.0.fits is
   made_at (stage.Ended e) fits is = absurd (cc)
 
   pub attempt_steps : Fits z u m r v → asks m r ≡ Some a → w.steps ≡ v.steps + steps_in answer
@@ -104,11 +104,11 @@ module _ (z : Sizes) (u : View) (m : Attempt) (r : Room) (v w : View) (a : Actio
 module _ (z : Sizes) (u : View) (m : Attempt) (r : Room) (v : View) (c : Cell) (b : Bool) where
   deed_made : (s : Stage) → StageFits z u s m r v → asks_at s m r ≡ Some (Commit c b) → r.change.effects.deed ≡ made_by m.job r.row r.gone
   deed_made stage.Finding fits is = absurd (ask_looks z (deed_at m r) v (Commit c b) (finding_allowed z u m r v fits (Commit c b) is))
-  deed_made stage.Reserve fits is = absurd (supply_asks_supply r.row.key.items r.row.value r.stock m.reserve (Commit c b) is)
+  deed_made (stage.Reserve s) fits is = absurd (supply_asks_supply r.row.key.items r.row.value r.stock s (Commit c b) is)
   deed_made (stage.Reading q) fits is = absurd (reads_look m.position.stamp q (Commit c b) is)
   deed_made (stage.Validate s) fits is = absurd (validate_asks_look m.position (cells_of m.case m.position.verdict) s (Commit c b) is)
   deed_made (stage.Naming byte n s) fits is = absurd (naming_asks_look m.position s (Commit c b) is)
-  deed_made stage.Apply fits is = fits.0.deed
+  deed_made (stage.Apply s) fits is = fits.0.deed
   deed_made (stage.Ended e) fits is = cc
 
   pub makes_deed : Fits z u m r v → asks m r ≡ Some (Commit c b) → r.change.effects.deed ≡ made_by m.job r.row r.gone

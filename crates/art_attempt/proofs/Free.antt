@@ -76,9 +76,9 @@ module _ (z : Sizes) (u : View) (m : Attempt) (r : Room) (v : View) where
       let reads = still_reading z r.row.key.items _ m.finding.descent.depth m.finding.descent.stage f.early v f.going f.fits.descent in
       within_so z u 1201 r v (omega arith) (ends_reading z u m r v v short f (later_first v) (omega arith) reads.only)
 
-  apply_so : HasMade z u m r v → is_begun m.apply ≡ true → EndsSo z u r v
-  apply_so h is =
-      let p = begun_locking r.change m.apply h.early v is h.fits.stage in
+  apply_so : (s : Apply) → HasMade z u m s r v → is_begun s ≡ true → EndsSo z u r v
+  apply_so s h is =
+      let p = begun_locking r.change s h.early v is h.fits.stage in
       let free = locking_none h.early r.change v p in
       let base = h.base in
       let still : StillTries u v = record {
@@ -90,18 +90,18 @@ module _ (z : Sizes) (u : View) (m : Attempt) (r : Room) (v : View) where
       } in
       record {
         still = still;
-        spent = λ limited. (let spent = h.spent limited in let steps = h.fits.steps in let most = begun_made m.apply is in let more = h.later.failures in omega (arith, spent, steps, most, more));
+        spent = λ limited. (let spent = h.spent limited in let steps = h.fits.steps in let most = begun_made s is in let more = h.later.failures in omega (arith, spent, steps, most, more));
         has = stock_same z r.row.key.items r.row.value h.early v r.stock (ap (λ (o : Rest). o.hand) p.same.rest) h.has;
       }
 
   reading_ends : (q : Rereading) → IsReadingOn z u m q r v → EndsSo z u r v
   reading_ends q f = reading_so z u f.early f.base r v f.later f.has f.reads.reads 23100 (λ limited. let spent = f.spent limited in omega (arith, spent))
 
-  pub free_so : length r.row.key.items ≤ 64 → (s : Stage) → free_at s m.apply ≡ true → ending_at s ≡ None → StageFits z u s m r v → EndsSo z u r v
+  pub free_so : length r.row.key.items ≤ 64 → (s : Stage) → free_at s ≡ true → ending_at s ≡ None → StageFits z u s m r v → EndsSo z u r v
   free_so short stage.Finding is going fits = finding_so short fits
-  free_so short stage.Reserve is going fits = within_so z u 21700 r v (omega arith) (supplies_so z u m r v fits.0)
+  free_so short (stage.Reserve s) is going fits = within_so z u 21700 r v (omega arith) (supplies_so z u m s r v fits.0)
   free_so short (stage.Reading q) is going fits = reading_ends q fits.0
   free_so short (stage.Naming byte n s) is going fits = within_so z u 21702 r v (omega arith) (naming_so z u m byte n s r v fits.0)
   free_so short (stage.Validate s) is going fits = within_so z u 22500 r v (omega arith) (validating_so z u m s r v fits.0)
-  free_so short stage.Apply is going fits = apply_so fits.0 is
+  free_so short (stage.Apply s) is going fits = apply_so s fits.0 is
   free_so short (stage.Ended e) is going fits = cc

@@ -37,26 +37,26 @@ apply_free : (left : ℕ) (m : Apply) → is_begun m ≡ true → apply_left lef
 apply_free left m is = rw is refl
 
 -- at most as many as of attempts alone
-pub free_few : (left : ℕ) (s : Stage) (m : Apply) → free_at s m ≡ true → left_at left s m ≤ tries_left left
-free_few left stage.Finding m is = omega arith
-free_few left stage.Reserve m is = omega arith
-free_few left (stage.Reading q) m is = omega arith
-free_few left (stage.Naming byte n s) m is = omega arith
-free_few left (stage.Validate s) m is = omega arith
-free_few left stage.Apply m is = let same = apply_free left m is in omega arith
-free_few left (stage.Ended ending.New) m is = omega arith
-free_few left (stage.Ended (ending.Present x)) m is = omega arith
-free_few left (stage.Ended (ending.Gone x)) m is = omega arith
-free_few left (stage.Ended ending.Absent) m is = omega arith
-free_few left (stage.Ended (ending.Full x)) m is = omega arith
-free_few left (stage.Ended (ending.Exhausted x)) m is = omega arith
-free_few left (stage.Ended ending.Overlaps) m is = omega arith
-free_few left (stage.Ended ending.Restart) m is = omega arith
+pub free_few : (left : ℕ) (s : Stage) → free_at s ≡ true → left_at left s ≤ tries_left left
+free_few left stage.Finding is = omega arith
+free_few left (stage.Reserve m) is = omega arith
+free_few left (stage.Reading q) is = omega arith
+free_few left (stage.Naming byte n s) is = omega arith
+free_few left (stage.Validate s) is = omega arith
+free_few left (stage.Apply m) is = let same = apply_free left m is in omega arith
+free_few left (stage.Ended ending.New) is = omega arith
+free_few left (stage.Ended (ending.Present x)) is = omega arith
+free_few left (stage.Ended (ending.Gone x)) is = omega arith
+free_few left (stage.Ended ending.Absent) is = omega arith
+free_few left (stage.Ended (ending.Full x)) is = omega arith
+free_few left (stage.Ended (ending.Exhausted x)) is = omega arith
+free_few left (stage.Ended ending.Overlaps) is = omega arith
+free_few left (stage.Ended ending.Restart) is = omega arith
 
 -- one step was made, and nothing is held after it
-pub free_less : (left n : ℕ) (s : Stage) (m : Apply) → 0 < left → n ≡ 1 → free_at s m ≡ true → left_at (left - n) s m < tries_left left
-free_less left n s m some one is =
-    let few = free_few (left - n) s m is in
+pub free_less : (left n : ℕ) (s : Stage) → 0 < left → n ≡ 1 → free_at s ≡ true → left_at (left - n) s < tries_left left
+free_less left n s some one is =
+    let few = free_few (left - n) s is in
     let all = tries_some left some in
     let then = tries_few (left - n) in
     omega arith

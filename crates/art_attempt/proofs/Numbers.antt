@@ -31,7 +31,7 @@ reserved_at (supplies.Leaf t) e is = cc
 reserved_at (supplies.LeafWriter t) e is = cc
 reserved_at (supplies.Node t) e is = cc
 
-module _ (z : Sizes) (u : View) (m : Attempt) (r : Room) (v : View) (h : HasSupplies z u m r v) where
+module _ (z : Sizes) (u : View) (m : Attempt) (q : Reserve) (r : Room) (v : View) (h : HasSupplies z u m q r v) where
   abbrev Stage : Reserve → Type 0
   Stage s = reserve.StageFits z (demand_of z m.case m.position.verdict) r.row.key.items r.row.value s r.stock h.early v
 
@@ -57,12 +57,12 @@ module _ (z : Sizes) (u : View) (m : Attempt) (r : Room) (v : View) (h : HasSupp
   comes_early is = subst (λ (c : Case). WantsNumbers z u c m.position r h.early) is h.wants
 
   -- no number of the pool was found for a leaf that comes
-  pub supplies_full : m.job ≡ Insert → (pool : Pool) → reserve.ended_at m.reserve ≡ Some (Full pool) → IsFull z u m.position r pool v
+  pub supplies_full : m.job ≡ Insert → (pool : Pool) → reserve.ended_at q ≡ Some (Full pool) → IsFull z u m.position r pool v
   supplies_full job pool is =
       let new = case_comes m.job m.case job h.case in
       let wants = comes_early new in
       let none : HasNone z (demand_of z NewLeaf m.position.verdict) pool h.early v =
-      subst (λ (c : Case). HasNone z (demand_of z c m.position.verdict) pool h.early v) new (subst Stage (reserved_at m.reserve (Full pool) is) h.fits.stage) in
+      subst (λ (c : Case). HasNone z (demand_of z c m.position.verdict) pool h.early v) new (subst Stage (reserved_at q (Full pool) is) h.fits.stage) in
       let same = ap (λ (t : View). t.checked) h.fits.only.only in
       let step = ap (λ (c : LastCheck). c.step) same in
       let done = wants.stood.done in
@@ -76,11 +76,11 @@ module _ (z : Sizes) (u : View) (m : Attempt) (r : Room) (v : View) (h : HasSupp
         after = omega (arith, step, done, since);
       }
 
-  supplies_all : reserve.ended_at m.reserve ≡ Some Ready → HasAll (demand_of z m.case m.position.verdict) r.stock
-  supplies_all is = subst Stage (reserved_at m.reserve Ready is) h.fits.stage
+  supplies_all : reserve.ended_at q ≡ Some Ready → HasAll (demand_of z m.case m.position.verdict) r.stock
+  supplies_all is = subst Stage (reserved_at q Ready is) h.fits.stage
 
   -- all is in hand
-  pub supplies_known : reserve.ended_at m.reserve ≡ Some Ready → IsKnown z u m.case m.position r v
+  pub supplies_known : reserve.ended_at q ≡ Some Ready → IsKnown z u m.case m.position r v
   supplies_known is = by m.case (supplies_all is) h.wants
     where
       by : (c : Case) → HasAll (demand_of z c m.position.verdict) r.stock → WantsNumbers z u c m.position r h.early → IsKnown z u c m.position r v
@@ -92,8 +92,8 @@ module _ (z : Sizes) (u : View) (m : Attempt) (r : Room) (v : View) (h : HasSupp
       by Torn all wants = absurd wants
 
   -- no smaller node was found: the leaf goes alone
-  pub supplies_alone : m.job ≡ Remove → (pool : Pool) → reserve.ended_at m.reserve ≡ Some (Full pool) → IsKnown z u DropLeaf m.position r v
-  supplies_alone job pool is = by m.case h.case h.wants (subst Stage (reserved_at m.reserve (Full pool) is) h.fits.stage)
+  pub supplies_alone : m.job ≡ Remove → (pool : Pool) → reserve.ended_at q ≡ Some (Full pool) → IsKnown z u DropLeaf m.position r v
+  supplies_alone job pool is = by m.case h.case h.wants (subst Stage (reserved_at q (Full pool) is) h.fits.stage)
     where
       by : (c : Case) → IsCaseOf m.job c → WantsNumbers z u c m.position r h.early → HasNone z (demand_of z c m.position.verdict) pool h.early v → IsKnown z u DropLeaf m.position r v
       by NewLeaf of wants none = let no : Insert ≡ Remove = sym (comes_insert m.job NewLeaf refl of) ∙ job in absurd (cc)

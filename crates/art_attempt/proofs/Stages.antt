@@ -6,7 +6,9 @@ use Rattle.art_attempt.specs.declared.attempts.Attempt.{Attempt}
 use Rattle.art_attempt.specs.declared.attempts.Stage.{Stage}
 use Rattle.art_attempt.specs.declared.attempts.Stage.TheVariants as stage
 use Rattle.art_find.specs.declared.rereadings.Rereading.{Rereading}
+use Rattle.art_attempt.specs.declared.reserve.Reserve.{Reserve}
 use Rattle.art_attempt.specs.declared.validate.Validate.{Validate}
+use Rattle.art_make.specs.declared.apply.Apply.{Apply}
 use Rattle.art_step.specs.declared.views.Sizes.{Sizes}
 use Rattle.art_step.specs.declared.views.View.{View}
 
@@ -20,8 +22,8 @@ module _ (z : Sizes) (u : View) (m : Attempt) (r : Room) (v : View) where
   pub is_finding : m.stage ≡ stage.Finding → Fits z u m r v → IsFinding z u m r v
   is_finding is fits = at_stage stage.Finding is fits
 
-  pub has_supplies : m.stage ≡ stage.Reserve → Fits z u m r v → HasSupplies z u m r v
-  has_supplies is fits = (at_stage stage.Reserve is fits).0
+  pub has_supplies : (s : Reserve) → m.stage ≡ stage.Reserve s → Fits z u m r v → HasSupplies z u m s r v
+  has_supplies s is fits = (at_stage (stage.Reserve s) is fits).0
 
   pub reads_on : (q : Rereading) → m.stage ≡ stage.Reading q → Fits z u m r v → StageFits z u (stage.Reading q) m r v
   reads_on q is fits = at_stage (stage.Reading q) is fits
@@ -29,5 +31,5 @@ module _ (z : Sizes) (u : View) (m : Attempt) (r : Room) (v : View) where
   pub is_validating : (s : Validate) → m.stage ≡ stage.Validate s → Fits z u m r v → IsValidating z u m s r v
   is_validating s is fits = (at_stage (stage.Validate s) is fits).0
 
-  pub has_made : m.stage ≡ stage.Apply → Fits z u m r v → HasMade z u m r v
-  has_made is fits = (at_stage stage.Apply is fits).0
+  pub has_made : (s : Apply) → m.stage ≡ stage.Apply s → Fits z u m r v → HasMade z u m s r v
+  has_made s is fits = (at_stage (stage.Apply s) is fits).0

@@ -1,5 +1,5 @@
 -- What an attempt of a write asks, and what it knows between two of its steps.
-use Rattle.std.specs.Prelude.{◌≡◌, ℕ, ◌-◌, ◌*◌, ◌<◌, ◌≤◌, ◌+◌, ◌++◌, List, [], Option, Some, None, Bool, true, false, ◌==◌, if◌then◌else◌}
+use Rattle.std.specs.Prelude.{◌≡◌, ◌⊎◌, ℕ, ◌-◌, ◌*◌, ◌<◌, ◌≤◌, ◌+◌, ◌++◌, List, [], Option, Some, None, Bool, true, false, ◌==◌, if◌then◌else◌}
 use Rattle.std.specs.Option.{unwrap_or}
 use Rattle.std.specs.Prelude.{Result, Ok, Err, ⊤}
 use Rattle.art_attempt.specs.Cases.{IsCaseOf, IsChosen, LeavesOther, LocksChecked, cells_of, demand_of, effects_of, made_by}
@@ -37,11 +37,13 @@ use Rattle.art_attempt.specs.Reserve as reserve
 use Rattle.art_attempt.specs.Reserve.{HasAll, HasNone}
 use Rattle.art_attempt.specs.Validate as validate
 use Rattle.art_attempt.specs.declared.naming.Naming.{Naming}
+use Rattle.art_attempt.specs.declared.reserve.Reserve.{Reserve}
 use Rattle.art_attempt.specs.declared.validate.Validate.{Validate}
 use Rattle.art_machine.specs.Acting.{goes_on, passed}
 use Rattle.art_machine.specs.declared.actions.Action.{Action}
 use Rattle.art_machine.specs.declared.actions.Action.TheVariants.{Check, Settle}
 use Rattle.art_machine.specs.declared.actions.Answer.{Answer}
+use Rattle.art_machine.specs.declared.actions.Answer.TheVariants.{Upgraded}
 use Rattle.art_make.specs.Apply as apply
 use Rattle.art_make.specs.Apply.{fault_of, is_begun, most_steps}
 use Rattle.art_make.specs.declared.apply.Apply.{Apply}
@@ -93,8 +95,8 @@ asks_place j None o = o
 abbrev pub finding_asks : Job → Finding → Option Action
 finding_asks j m = asks_place j (position_at m) (descents.asks m.descent.stage)
 
-abbrev pub supply_asks : Attempt → Room → Option Action
-supply_asks m r = reserve.asks r.row.key.items r.row.value r.stock m.reserve
+abbrev pub supply_asks : Reserve → Room → Option Action
+supply_asks s r = reserve.asks r.row.key.items r.row.value r.stock s
 
 abbrev pub reading_asks : Attempt → Rereading → Option Action
 reading_asks m q = reads_next m.position.stamp q
@@ -105,16 +107,16 @@ naming_asks m s = naming.asks m.position s
 abbrev pub validate_asks : Attempt → Validate → Option Action
 validate_asks m s = validate.asks m.position (cells_of m.case m.position.verdict) s
 
-abbrev pub apply_asks : Attempt → Room → Option Action
-apply_asks m r = apply.asks r.change m.apply
+abbrev pub apply_asks : Apply → Room → Option Action
+apply_asks s r = apply.asks r.change s
 
 abbrev pub asks_at : Stage → Attempt → Room → Option Action
 asks_at stage.Finding m r = finding_asks m.job m.finding
-asks_at stage.Reserve m r = supply_asks m r
+asks_at (stage.Reserve s) m r = supply_asks s r
 asks_at (stage.Reading q) m r = reading_asks m q
 asks_at (stage.Naming byte n s) m r = naming_asks m s
 asks_at (stage.Validate s) m r = validate_asks m s
-asks_at stage.Apply m r = apply_asks m r
+asks_at (stage.Apply s) m r = apply_asks s r
 asks_at (stage.Ended e) m r = None
 
 -- the next step
@@ -229,14 +231,14 @@ WantsNumbers z u (Shrink layout) t r v = HasLeaf t r × (loss_at t r.read_set �
 WantsNumbers z u c t r v = ⊥
 
 -- numbers come into the hand, or all did, or one was not found
-pub record HasSupplies (z : Sizes) (u : View) (m : Attempt) (r : Room) (v : View) : Type 0 where
+pub record HasSupplies (z : Sizes) (u : View) (m : Attempt) (s : Reserve) (r : Room) (v : View) : Type 0 where
   pub early : View
   pub base : StillTries u early
   pub spent : HasSpent z u 1203 early
   pub case : IsCaseOf m.job m.case
   pub standing : IsStanding z r.row.key.items m.position r.read_set early
   pub wants : WantsNumbers z u m.case m.position r early
-  pub fits : reserve.Fits z (demand_of z m.case m.position.verdict) r.row.key.items r.row.value m.reserve r.stock early v
+  pub fits : reserve.Fits z (demand_of z m.case m.position.verdict) r.row.key.items r.row.value s r.stock early v
 
 -- at most so many steps were made, with one for each word of the node before this place
 abbrev pub reading_most : Rereading → ℕ
@@ -302,7 +304,7 @@ pub record MayMake (z : Sizes) (u : View) (m : Attempt) (r : Room) (v : View) : 
   pub locks : HasLocks u m r v
 
 -- the change is made
-pub record HasMade (z : Sizes) (u : View) (m : Attempt) (r : Room) (v : View) : Type 0 where
+pub record HasMade (z : Sizes) (u : View) (m : Attempt) (s : Apply) (r : Room) (v : View) : Type 0 where
   pub early : View
   pub base : StillTries u early
   pub later : IsLater early v
@@ -314,15 +316,15 @@ pub record HasMade (z : Sizes) (u : View) (m : Attempt) (r : Room) (v : View) : 
   pub plain : r.change.copy ≡ None
   pub leaf : (l : ℕ) → r.change.effects.leaf ≡ Some l → r.stock.leaf ≡ Some l
   pub deed : r.change.effects.deed ≡ made_by m.job r.row r.gone
-  pub fits : apply.Fits z r.change m.apply early v
+  pub fits : apply.Fits z r.change s early v
 
-abbrev pub free_at : Stage → Apply → Bool
-free_at stage.Apply m = is_begun m
-free_at s m = true
+abbrev pub free_at : Stage → Bool
+free_at (stage.Apply s) = is_begun s
+free_at s = true
 
 -- nothing is held
 abbrev pub is_free : Attempt → Bool
-is_free m = free_at m.stage m.apply
+is_free m = free_at m.stage
 
 -- ---- how many steps are left
 
@@ -349,14 +351,14 @@ abbrev pub ended_left : ℕ → Ending → ℕ
 ended_left left Restart = tries_left left
 ended_left left e = 0
 
-abbrev pub left_at : ℕ → Stage → Apply → ℕ
-left_at left stage.Apply m = apply_left left m
-left_at left (stage.Ended e) m = ended_left left e
-left_at left s m = tries_left left
+abbrev pub left_at : ℕ → Stage → ℕ
+left_at left (stage.Apply s) = apply_left left s
+left_at left (stage.Ended e) = ended_left left e
+left_at left s = tries_left left
 
 -- at most so many steps come, with those of the attempts that come after this one
 abbrev pub steps_left : ℕ → Attempt → ℕ
-steps_left left m = left_at left m.stage m.apply
+steps_left left m = left_at left m.stage
 
 -- ---- how it ends
 
@@ -424,10 +426,14 @@ EndFits z u m r e v = EndsBy z u m.job m.position m.case r e v
 
 -- ---- why it is tried anew
 
--- a version word was locked, obsolete or changed: the last answer said so, or of the cells of the change one was changed
-abbrev pub IsRestartBy : Stage → Apply → Answer → Type 0
-IsRestartBy stage.Apply m answer = (e : Changed) × (fault_of m ≡ Some (fault.Changed e))
-IsRestartBy s m answer = goes_on answer ≡ false
+-- the change is given up for a cell that was changed: it was before this answer, or the answer says so of an upgrade
+abbrev pub IsGivenUpBy : Apply → Answer → Type 0
+IsGivenUpBy s answer = (e : Changed) × ((fault_of s ≡ Some (fault.Changed e)) ⊎ (answer ≡ Upgraded (Err (fault.Changed e))))
+
+-- a version word was locked, obsolete or changed: the last answer said so, or the change was given up for it
+abbrev pub IsRestartBy : Stage → Answer → Type 0
+IsRestartBy (stage.Apply s) answer = IsGivenUpBy s answer
+IsRestartBy s answer = goes_on answer ≡ false
 
 -- ---- why it ends as an overlap
 
@@ -444,11 +450,11 @@ pub record IsOverlapBy (m : Attempt) (answer : Answer) : Type 0 where
 
 abbrev pub StageFits : Sizes → View → Stage → Attempt → Room → View → Type 0
 StageFits z u stage.Finding m r v = IsFinding z u m r v
-StageFits z u stage.Reserve m r v = HasSupplies z u m r v × (reserve.ended_at m.reserve ≡ None)
+StageFits z u (stage.Reserve s) m r v = HasSupplies z u m s r v × (reserve.ended_at s ≡ None)
 StageFits z u (stage.Reading q) m r v = IsReadingOn z u m q r v × (q.place < size_of m.position.stamp.cell)
 StageFits z u (stage.Naming byte n s) m r v = IsNaming z u m byte n s r v × (naming.ended_at s ≡ None)
 StageFits z u (stage.Validate s) m r v = IsValidating z u m s r v × (validate.ended_at s ≡ None)
-StageFits z u stage.Apply m r v = HasMade z u m r v × (apply.ended_at m.apply ≡ None)
+StageFits z u (stage.Apply s) m r v = HasMade z u m s r v × (apply.ended_at s ≡ None)
 StageFits z u (stage.Ended e) m r v = EndFits z u m r e v
 
 -- the room is one of a key

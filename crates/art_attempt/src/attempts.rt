@@ -10,7 +10,7 @@ ghost use Rattle.art_machine.specs.declared.actions.Action.{Action as ActionOf};
 ghost use Rattle.art_step.specs.declared.views.Sizes.{Sizes};
 ghost use Rattle.art_step.specs.declared.views.View.{View};
 
-use crate::{Case, Naming, Reserve, Reserved, Room, Validate};
+use crate::{Case, Naming, Reserve, Room, Validate};
 use art_cell::{Cell, Node, Pool};
 use art_find::{Finding, Position, Rereading, Verdict};
 use art_machine::{Action, Answer};
@@ -53,7 +53,7 @@ pub enum Stage {
     /// The place of the key is sought.
     Finding,
     /// Numbers come into the hand.
-    Reserve,
+    Reserve(Reserve),
     /// The words of the node that are missing are read, to tell which child it keeps.
     Reading(Rereading),
     /// The node that takes the place of the one that goes is stamped, and that one, whose child it is at this byte, is checked.
@@ -65,7 +65,7 @@ pub enum Stage {
     /// What is still to be read is read, and the cells are checked.
     Validate(Validate),
     /// The change is made.
-    Apply,
+    Apply(Apply),
     Ended(Ending),
 }
 
@@ -79,8 +79,6 @@ pub struct Attempt {
     pub(crate) position: Position,
     /// What is changed, once that is known.
     pub(crate) case: Case,
-    pub(crate) reserve: Reserve,
-    pub(crate) apply: Apply,
 }
 
 impl Attempt {
@@ -104,8 +102,6 @@ impl Attempt {
             finding: Finding::new(),
             position: nowhere(),
             case: Case::NewLeaf,
-            reserve: Reserve::Ended(Reserved::Ready),
-            apply: Apply::Ended(Ok(())),
         }
     }
 
@@ -120,11 +116,11 @@ impl Attempt {
     {
         match self.stage {
             Stage::Finding => self.find_next(),
-            Stage::Reserve => self.supply_next(room),
+            Stage::Reserve(reserve) => self.supply_next(room, reserve),
             Stage::Reading(rereading) => self.read_next(rereading),
             Stage::Naming { naming, .. } => self.name_next(naming),
             Stage::Validate(validate) => self.validate_next(validate),
-            Stage::Apply => self.make_next(room),
+            Stage::Apply(apply) => self.make_next(room, apply),
             Stage::Ended(_) => None,
         }
     }
@@ -139,18 +135,18 @@ impl Attempt {
             Fits z u self.new room.new w }
         ensures left { (left : ℕ) → (is_free self.old ≡ true → 0 < left) →
             steps_left (left - steps_in answer) self.new < steps_left left self.old }
-        ensures anew { ended_at self.new ≡ Some anew → IsRestartBy self.old.stage self.new.apply answer }
+        ensures anew { ended_at self.new ≡ Some anew → IsRestartBy self.old.stage answer }
         ensures overlaps { ended_at self.new ≡ Some overlaps → IsOverlapBy self.old answer }
     {
         match self.stage {
             Stage::Finding => self.find_told(room, answer),
-            Stage::Reserve => self.supply_told(room, answer),
+            Stage::Reserve(reserve) => self.supply_told(room, reserve, answer),
             Stage::Reading(rereading) => self.read_told(room, rereading, answer),
             Stage::Naming { byte, node, naming } => self.name_told(
                 room, byte, node, naming, answer,
             ),
             Stage::Validate(validate) => self.validate_told(room, validate, answer),
-            Stage::Apply => self.make_told(room, answer),
+            Stage::Apply(apply) => self.make_told(room, apply, answer),
             Stage::Ended(_) => {}
         }
     }
@@ -180,10 +176,10 @@ impl Attempt {
                 self.find_all(steps, room, left);
                 self.settle_on(steps, room, left);
             }
-            Stage::Reserve => self.supply_all(steps, room, left),
+            Stage::Reserve(reserve) => self.supply_all(steps, room, reserve, left),
             Stage::Reading(_) => self.read_all(steps, room, left),
             Stage::Validate(validate) => self.validate_all(steps, room, validate, left),
-            Stage::Apply => self.make_all(steps, room, left),
+            Stage::Apply(apply) => self.make_all(steps, room, apply, left),
             // a naming makes two steps at most
             Stage::Naming { .. } | Stage::Ended(_) => {}
         }
@@ -212,7 +208,7 @@ impl Attempt {
         ensures free { result ≡ true → ended_at self.now ≡ None → (z : Sizes) (u v : View) (r : RoomOf) → Fits z u self.now r v →
             EndsSo z u r v }
     {
-        free_at(self.stage, &self.apply)
+        free_at(self.stage)
     }
 
     /// The value that was found, where the check of the place settles the answer.
@@ -243,11 +239,11 @@ fn nowhere() -> Position
 }
 
 /// Whether nothing is held at this stage.
-fn free_at(stage: Stage, apply: &Apply) -> bool
-    ensures { result ≡ free_at stage apply.now }
+fn free_at(stage: Stage) -> bool
+    ensures { result ≡ free_at stage }
 {
     match stage {
-        Stage::Apply => apply.is_begun(),
+        Stage::Apply(apply) => apply.is_begun(),
         _ => true,
     }
 }

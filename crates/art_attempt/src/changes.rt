@@ -1,6 +1,6 @@
 //! How an attempt plans its change, and makes it.
 ghost use Rattle.std.specs.Prelude.{◌≡◌, ◌≢◌, ℕ, ◌+◌, ◌-◌, ◌<◌, ◌≤◌, None, Some, true, Result, ⊤};
-ghost use Rattle.art_attempt.specs.Attempts.{EndsWithin, Fits, HasMade, IsRoom, IsSameTry, IsValidating, MayMake, apply_asks, apply_left};
+ghost use Rattle.art_attempt.specs.Attempts.{EndsWithin, Fits, HasMade, IsRoom, IsSameTry, IsGivenUpBy, IsValidating, MayMake, apply_asks, apply_left};
 ghost use Rattle.art_attempt.specs.Attempts.{ended_at, ended_so, is_free, steps_left};
 ghost use Rattle.art_attempt.specs.Attempts.{given_up, written};
 ghost use Rattle.art_attempt.specs.declared.attempts.Ending.TheVariants.{Restart as anew, Overlaps as overlaps};
@@ -10,11 +10,10 @@ ghost use Rattle.art_attempt.specs.declared.validate.Validate.TheVariants.{Ended
 ghost use Rattle.art_attempt.specs.declared.validate.Validated.TheVariants.{Unchanged as unchanged};
 ghost use Rattle.art_machine.specs.Acting.{Answers as ActionAnswers, steps_in};
 ghost use Rattle.art_machine.specs.declared.actions.Action.{Action as ActionOf};
-ghost use Rattle.art_make.specs.Apply.{brings, ended_at as made_at, fault_of, is_begun};
+ghost use Rattle.art_make.specs.Apply.{brings, ended_at as made_at, is_begun};
+ghost use Rattle.art_make.specs.declared.apply.Apply.{Apply as ApplyOf};
 ghost use Rattle.art_plan.specs.Changes.{targets};
-ghost use Rattle.art_step.specs.declared.faults.Changed.{Changed};
 ghost use Rattle.art_step.specs.declared.faults.UpgradeFault.{UpgradeFault as FaultOf};
-ghost use Rattle.art_step.specs.declared.faults.UpgradeFault.TheVariants.{Changed as changed};
 ghost use Rattle.art_step.specs.declared.views.Sizes.{Sizes};
 ghost use Rattle.art_step.specs.declared.views.View.{View};
 
@@ -30,7 +29,6 @@ use art_step::{EpochSteps, UpgradeFault};
 impl Attempt {
     ghost use Rattle.std.specs.Prelude.{IfSome};
     ghost use Rattle.art_attempt.specs.Asking.{IsAllowed};
-    ghost use Rattle.art_attempt.specs.Attempts.{asks_at};
     ghost use Rattle.art_step.specs.declared.deeds.Deed.{Deed};
 
     /// All that is written was seen: the change is planned.
@@ -194,46 +192,52 @@ impl Attempt {
         ensures fits { (z : Sizes) (u v : View) → IsRoom z room.now → EndsWithin z u 22500 room.now v → MayMake z u self.old room.now v →
             Fits z u self.new room.now v }
     {
-        self.apply = Apply::new(&room.change);
-        self.stage = Stage::Apply;
+        let apply = Apply::new(&room.change);
+        self.stage = Stage::Apply(apply);
     }
 
     /// What comes next where the change is made.
     #[inline(always)]
-    pub(crate) fn make_next(&self, room: &Room) -> Option<Action>
-        ensures asks { result ≡ asks_at stages.Apply self.now room.now }
-        ensures allowed { (z : Sizes) (u v : View) (d : Deed) → HasMade z u self.now room.now v →
+    pub(crate) fn make_next(&self, room: &Room, apply: Apply) -> Option<Action>
+        ensures asks { result ≡ apply_asks apply room.now }
+        ensures allowed { (z : Sizes) (u v : View) (d : Deed) → HasMade z u self.now apply room.now v →
             IfSome result (IsAllowed z d room.now.change v) }
-        ensures going { (z : Sizes) (u v : View) → HasMade z u self.now room.now v → made_at self.now.apply ≡ None →
+        ensures going { (z : Sizes) (u v : View) → HasMade z u self.now apply room.now v → made_at apply ≡ None →
             (a : ActionOf) × (result ≡ Some a) }
     {
-        self.apply.next(&room.change)
+        apply.next(&room.change)
     }
 
     /// A step of the change was made.
     #[inline(always)]
-    pub(crate) fn make_told(&mut self, room: &mut Room, answer: Answer)
-        requires stage { self.old.stage ≡ stages.Apply }
-        requires told { (z : Sizes) × (u : View) × (v : View) × (w : View) × (asked : ActionOf) × IsRoom z room.old ×
-            HasMade z u self.old room.old v × (apply_asks self.old room.old ≡ Some asked) ×
+    pub(crate) fn make_told(&mut self, room: &mut Room, apply: Apply, answer: Answer)
+        requires { (z : Sizes) × (u : View) × (v : View) × (w : View) × (asked : ActionOf) × IsRoom z room.old ×
+            HasMade z u self.old apply room.old v × (apply_asks apply room.old ≡ Some asked) ×
             ActionAnswers z (brings room.old.change) asked answer v w }
         ensures kept { IsSameTry self.old self.new room.old room.new }
-        ensures fits { (z : Sizes) (u v w : View) (asked : ActionOf) → IsRoom z room.old → HasMade z u self.old room.old v →
-            apply_asks self.old room.old ≡ Some asked → ActionAnswers z (brings room.old.change) asked answer v w →
+        ensures fits { (z : Sizes) (u v w : View) (asked : ActionOf) → IsRoom z room.old → HasMade z u self.old apply room.old v →
+            apply_asks apply room.old ≡ Some asked → ActionAnswers z (brings room.old.change) asked answer v w →
             Fits z u self.new room.new w }
-        ensures left { (left : ℕ) → (is_begun self.old.apply ≡ true → 0 < left) →
-            steps_left (left - steps_in answer) self.new < apply_left left self.old.apply }
-        ensures anew { ended_at self.new ≡ Some anew → (e : Changed) × (fault_of self.new.apply ≡ Some (changed e)) }
+        ensures left { (left : ℕ) → (is_begun apply ≡ true → 0 < left) →
+            steps_left (left - steps_in answer) self.new < apply_left left apply }
+        ensures anew { ended_at self.new ≡ Some anew → IsGivenUpBy apply answer }
         ensures not_overlaps { ended_at self.new ≢ Some overlaps }
         ensures over { is_free self.new ≡ true → ended_at self.new ≢ None }
     {
-        self.apply.told(&room.change, answer);
-        self.make_on(room);
+        let mut apply = apply;
+        apply.told(&room.change, answer);
+        self.make_on(room, apply);
     }
 
     /// Makes all steps that are left of the change; where no cell is locked yet, as long as more than one turn is left.
-    pub(crate) fn make_all<S: EpochSteps>(&mut self, steps: &mut S, room: &mut Room, left: &mut u32)
-        requires stage { self.old.stage ≡ stages.Apply }
+    pub(crate) fn make_all<S: EpochSteps>(
+        &mut self,
+        steps: &mut S,
+        room: &mut Room,
+        apply: Apply,
+        left: &mut u32,
+    )
+        requires stage { self.old.stage ≡ stages.Apply apply }
         requires turn { 0 < left.old }
         requires admitted { S.admits steps.old room.old.row.key.items }
         requires fits { (u : View) × Fits (S.sizes steps.old) u self.old room.old (S.view steps.old) }
@@ -247,23 +251,23 @@ impl Attempt {
         ensures fits { (u : View) → Fits (S.sizes steps.old) u self.old room.old (S.view steps.old) →
             Fits (S.sizes steps.old) u self.new room.new (S.view steps.new) }
     {
-        self.apply.run(steps, &room.change, left);
-        self.make_on(room);
+        let mut apply = apply;
+        apply.run(steps, &room.change, left);
+        self.make_on(room, apply);
     }
 
     /// It goes on; or the change is made, or was given up.
     #[inline(always)]
-    fn make_on(&mut self, room: &mut Room)
-        requires stage { self.old.stage ≡ stages.Apply }
+    fn make_on(&mut self, room: &mut Room, apply: Apply)
         ensures kept { IsSameTry self.old self.new room.old room.new }
-        ensures going { made_at self.old.apply ≡ None → self.new ≡ self.old }
-        ensures ended { (made : Result ⊤ FaultOf) → made_at self.old.apply ≡ Some made →
+        ensures going { made_at apply ≡ None → self.new.stage ≡ stages.Apply apply }
+        ensures ended { (made : Result ⊤ FaultOf) → made_at apply ≡ Some made →
             self.new.stage ≡ stages.Ended (ended_so self.old.job room.old.gone.value made) }
-        ensures apply { self.new.apply ≡ self.old.apply }
-        ensures fits { (z : Sizes) (u v : View) → IsRoom z room.old → HasMade z u self.old room.old v → Fits z u self.new room.new v }
+        ensures fits { (z : Sizes) (u v : View) → IsRoom z room.old → HasMade z u self.old apply room.old v →
+            Fits z u self.new room.new v }
     {
-        match self.apply.ended() {
-            None => {}
+        match apply.ended() {
+            None => self.stage = Stage::Apply(apply),
             Some(made) => self.made(room, made),
         }
     }
@@ -273,9 +277,8 @@ impl Attempt {
     fn made(&mut self, room: &mut Room, made: Result<(), UpgradeFault>)
         ensures kept { IsSameTry self.old self.new room.old room.new }
         ensures stage { self.new.stage ≡ stages.Ended (ended_so self.old.job room.old.gone.value made) }
-        ensures apply { self.new.apply ≡ self.old.apply }
-        ensures fits { (z : Sizes) (u v : View) → IsRoom z room.old → HasMade z u self.old room.old v →
-            made_at self.old.apply ≡ Some made → Fits z u self.new room.new v }
+        ensures fits { (z : Sizes) (u v : View) (s : ApplyOf) → IsRoom z room.old → HasMade z u self.old s room.old v →
+            made_at s ≡ Some made → Fits z u self.new room.new v }
     {
         match made {
             Ok(()) => {

@@ -1,6 +1,6 @@
 //! How an attempt brings numbers into the hand, and validates the cells that it writes.
 ghost use Rattle.std.specs.Prelude.{◌≡◌, ◌≢◌, ℕ, ◌+◌, ◌<◌, ◌≤◌, length, None, Some, true, false};
-ghost use Rattle.art_attempt.specs.Attempts.{EndsWithin, Fits, HasSupplies, IsKnown, IsRoom, IsSameTry, IsValidating, WantsNumbers, asks_at, deed_at};
+ghost use Rattle.art_attempt.specs.Attempts.{EndsWithin, Fits, HasSupplies, IsKnown, IsRoom, IsSameTry, IsValidating, WantsNumbers, deed_at};
 ghost use Rattle.art_attempt.specs.Attempts.{ended_at, is_free, supply_asks, validate_asks};
 ghost use Rattle.art_attempt.specs.Cases.{IsCaseOf, cells_of};
 ghost use Rattle.art_attempt.specs.declared.attempts.Ending.TheVariants.{Restart as anew, Overlaps as overlaps};
@@ -8,6 +8,7 @@ ghost use Rattle.art_attempt.specs.declared.attempts.Stage.TheVariants as stages
 ghost use Rattle.art_find.specs.Findings.{IsStanding};
 ghost use Rattle.art_attempt.specs.Reserve.{ended_at as reserved_at};
 ghost use Rattle.art_attempt.specs.Validate.{BelowFits, ended_at as validated_at};
+ghost use Rattle.art_attempt.specs.declared.reserve.Reserve.{Reserve as ReserveOf};
 ghost use Rattle.art_attempt.specs.declared.reserve.Reserved.TheVariants.{Full as full};
 ghost use Rattle.art_attempt.specs.declared.validate.Validated.TheVariants.{Changed as changed_cell};
 ghost use Rattle.art_machine.specs.Acting.{Answers as ActionAnswers, goes_on, telling};
@@ -29,16 +30,16 @@ impl Attempt {
 
     /// What comes next where numbers are brought into the hand.
     #[inline(always)]
-    pub(crate) fn supply_next(&self, room: &Room) -> Option<Action>
+    pub(crate) fn supply_next(&self, room: &Room, reserve: Reserve) -> Option<Action>
         requires short { length room.now.row.key.items ≤ 64 }
-        ensures asks { result ≡ asks_at stages.Reserve self.now room.now }
-        ensures allowed { (z : Sizes) (u v : View) (d : Deed) → HasSupplies z u self.now room.now v →
+        ensures asks { result ≡ supply_asks reserve room.now }
+        ensures allowed { (z : Sizes) (u v : View) (d : Deed) → HasSupplies z u self.now reserve room.now v →
             IfSome result (IsAllowed z d room.now.change v) }
-        ensures going { (z : Sizes) (u v : View) → HasSupplies z u self.now room.now v → reserved_at self.now.reserve ≡ None →
+        ensures going { (z : Sizes) (u v : View) → HasSupplies z u self.now reserve room.now v → reserved_at reserve ≡ None →
             (a : ActionOf) × (result ≡ Some a) }
     {
         let key = room.row.key.as_slice();
-        self.reserve.next(key, room.row.value, &room.stock)
+        reserve.next(key, room.row.value, &room.stock)
     }
 
     /// In this case numbers are wanted: they are brought into the hand.
@@ -54,25 +55,26 @@ impl Attempt {
     {
         self.case = case;
         let demand = case.demand(room.sizes, &self.position.verdict);
-        self.reserve = Reserve::new(&demand, &mut room.stock);
-        self.supply_on(room);
+        let reserve = Reserve::new(&demand, &mut room.stock);
+        self.supply_on(room, reserve);
     }
 
     /// A number was sought, or a word of the leaf written.
     #[inline(always)]
-    pub(crate) fn supply_told(&mut self, room: &mut Room, answer: Answer)
+    pub(crate) fn supply_told(&mut self, room: &mut Room, reserve: Reserve, answer: Answer)
         requires { (z : Sizes) × (u : View) × (v : View) × (w : View) × (asked : ActionOf) × IsRoom z room.old ×
-            HasSupplies z u self.old room.old v × (supply_asks self.old room.old ≡ Some asked) × ActionAnswers z None asked answer v w }
+            HasSupplies z u self.old reserve room.old v × (supply_asks reserve room.old ≡ Some asked) × ActionAnswers z None asked answer v w }
         ensures kept { IsSameTry self.old self.new room.old room.new }
         ensures not_anew { ended_at self.new ≢ Some anew }
         ensures not_overlaps { ended_at self.new ≢ Some overlaps }
         ensures free { is_free self.new ≡ true }
-        ensures fits { (z : Sizes) (u v w : View) (asked : ActionOf) → IsRoom z room.old → HasSupplies z u self.old room.old v →
-            supply_asks self.old room.old ≡ Some asked → ActionAnswers z None asked answer v w → Fits z u self.new room.new w }
+        ensures fits { (z : Sizes) (u v w : View) (asked : ActionOf) → IsRoom z room.old → HasSupplies z u self.old reserve room.old v →
+            supply_asks reserve room.old ≡ Some asked → ActionAnswers z None asked answer v w → Fits z u self.new room.new w }
     {
         let demand = self.case.demand(room.sizes, &self.position.verdict);
-        self.reserve.told(&demand, &mut room.stock, answer);
-        self.supply_on(room);
+        let mut reserve = reserve;
+        reserve.told(&demand, &mut room.stock, answer);
+        self.supply_on(room, reserve);
     }
 
     /// Brings numbers into the hand, as long as more than one turn is left.
@@ -80,9 +82,10 @@ impl Attempt {
         &mut self,
         steps: &mut S,
         room: &mut Room,
+        reserve: Reserve,
         left: &mut u32,
     )
-        requires stage { self.old.stage ≡ stages.Reserve }
+        requires stage { self.old.stage ≡ stages.Reserve reserve }
         requires short { length room.old.row.key.items ≤ 64 }
         requires turn { 0 < left.old }
         requires fits { (u : View) × Fits (S.sizes steps.old) u self.old room.old (S.view steps.old) }
@@ -96,22 +99,23 @@ impl Attempt {
     {
         let demand = self.case.demand(room.sizes, &self.position.verdict);
         let key = room.row.key.as_slice();
-        self.reserve
-            .run(steps, &demand, key, room.row.value, &mut room.stock, left);
-        self.supply_on(room);
+        let mut reserve = reserve;
+        reserve.run(steps, &demand, key, room.row.value, &mut room.stock, left);
+        self.supply_on(room, reserve);
     }
 
     /// It goes on; or all is in hand, and the cells are validated; or a pool gave no number.
     #[inline(always)]
-    fn supply_on(&mut self, room: &Room)
+    fn supply_on(&mut self, room: &Room, reserve: Reserve)
         ensures job { self.new.job ≡ self.old.job }
         ensures not_anew { ended_at self.new ≢ Some anew }
         ensures not_overlaps { ended_at self.new ≢ Some overlaps }
         ensures free { is_free self.new ≡ true }
-        ensures fits { (z : Sizes) (u v : View) → IsRoom z room.now → HasSupplies z u self.old room.now v → Fits z u self.new room.now v }
+        ensures fits { (z : Sizes) (u v : View) → IsRoom z room.now → HasSupplies z u self.old reserve room.now v →
+            Fits z u self.new room.now v }
     {
-        match self.reserve.ended() {
-            None => self.stage = Stage::Reserve,
+        match reserve.ended() {
+            None => self.stage = Stage::Reserve(reserve),
             Some(Reserved::Ready) => self.validate(room, self.case),
             Some(Reserved::Full(pool)) => self.lack(room, pool),
         }
@@ -123,8 +127,8 @@ impl Attempt {
         ensures not_anew { ended_at self.new ≢ Some anew }
         ensures not_overlaps { ended_at self.new ≢ Some overlaps }
         ensures free { is_free self.new ≡ true }
-        ensures fits { (z : Sizes) (u v : View) → IsRoom z room.now → HasSupplies z u self.old room.now v →
-            reserved_at self.old.reserve ≡ Some (full pool) → Fits z u self.new room.now v }
+        ensures fits { (z : Sizes) (u v : View) (s : ReserveOf) → IsRoom z room.now → HasSupplies z u self.old s room.now v →
+            reserved_at s ≡ Some (full pool) → Fits z u self.new room.now v }
     {
         match self.job {
             Job::Insert => self.stage = Stage::Ended(Ending::Full(pool)),

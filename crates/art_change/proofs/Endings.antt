@@ -37,11 +37,11 @@ use Rattle.art_epoch.proofs.Waiting.{commit_waits}
 ended_stage : (s : Stage) (e : Ending) → ending_at s ≡ Some e → s ≡ stage.Ended e
 ended_stage (stage.Ended a) e is = ap stage.Ended (same_Some {A = Ending} a e is)
 ended_stage stage.Finding e is = cc
-ended_stage stage.Reserve e is = cc
+ended_stage (stage.Reserve s) e is = cc
 ended_stage (stage.Reading q) e is = cc
 ended_stage (stage.Validate s) e is = cc
 ended_stage (stage.Naming byte n s) e is = cc
-ended_stage stage.Apply e is = cc
+ended_stage (stage.Apply s) e is = cc
 
 -- nothing was told
 abbrev pub IsRefusal : Ending → Type 0
@@ -66,7 +66,7 @@ module _ (z : Sizes) (u : View) (r : Room) (v : View) where
   refused_so t ending.Restart none fits = fits.0
 
 pub ended_steps : (left : ℕ) (t : Attempt) (e : Ending) → ended_at t ≡ Some e → steps_left left t ≡ ended_left left e
-ended_steps left t e is = ap (λ (s : Stage). left_at left s t.apply) (ended_stage t.stage e is)
+ended_steps left t e is = ap (left_at left) (ended_stage t.stage e is)
 
 -- ---- what every end leaves
 

@@ -204,4 +204,4 @@ anew_left left ending.Restart is = refl
 -- ---- an attempt at its beginning
 
 pub first_of : (j : Job) (t : Attempt) → t.job ≡ j → ended_at t ≡ None → is_free t ≡ true → ((z : Sizes) (u : View) (r : Room) → IsRoom z r → StillTries u u → HasHand z u r → Fits z u t r u) → IsFirst j t
-first_of j t job going free fits = record { job = job; going = going; few = λ left. free_few left t.stage t.apply free; fits = fits }
+first_of j t job going free fits = record { job = job; going = going; few = λ left. free_few left t.stage free; fits = fits }

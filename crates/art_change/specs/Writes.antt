@@ -325,7 +325,7 @@ pub record HasCounted (z : Sizes) (u : View) (turns restarts : ℕ) (o : Outcome
 
 -- it did not try anew, or this answer to its attempt was why
 abbrev pub RestartsBy : Write → Write → Answer → Type 0
-RestartsBy m next answer = (next.restarts ≡ m.restarts) ⊎ ((t : Attempt) × attempts.IsRestartBy m.attempt.stage t.apply answer)
+RestartsBy m next answer = (next.restarts ≡ m.restarts) ⊎ attempts.IsRestartBy m.attempt.stage answer
 
 -- ---- an overlap
 

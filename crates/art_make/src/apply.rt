@@ -1,5 +1,5 @@
 //! The making of a change, step by step.
-ghost use Rattle.std.specs.Prelude.{◌≡◌, ℕ, ◌+◌, ◌<◌, ◌≤◌, [], take, length, Some, true, false};
+ghost use Rattle.std.specs.Prelude.{◌≡◌, ◌⊎◌, ℕ, ◌+◌, ◌<◌, ◌≤◌, [], take, length, Some, true, false};
 ghost use Rattle.art_machine.specs.Acting.{Answers};
 ghost use Rattle.art_plan.specs.Changes.{target_at, targets};
 ghost use Rattle.art_plan.specs.Whole.{IsWhole, filled_ends};
@@ -97,6 +97,7 @@ impl Apply {
         ensures steps { most_steps self.old < most_steps self.new }
         ensures stays { (e : FaultOf) → fault_of self.old ≡ Some e → fault_of self.new ≡ Some e }
         ensures refused { (e : FaultOf) → answer ≡ upgraded (Err e) → fault_of self.new ≡ Some e }
+        ensures why { (e : FaultOf) → fault_of self.new ≡ Some e → (fault_of self.old ≡ Some e) ⊎ (answer ≡ upgraded (Err e)) }
         ensures fits { (z : Sizes) (u v w : View) (asked : ActionOf) → Fits z change.now self.old u v →
             asks change.now self.old ≡ Some asked → Answers z (brings change.now) asked answer v w → Fits z change.now self.new u w }
     {
@@ -230,6 +231,7 @@ fn upgraded(change: &Change, index: usize, answer: Answer) -> Apply
     requires answer { (z : Sizes) × (x : StampOf) × (v : View) × (w : View) × Answers z (brings change.now) (upgrade x) answer v w }
     ensures steps { index < most_steps result }
     ensures refused { (e : FaultOf) → answer ≡ upgraded (Err e) → fault_of result ≡ Some e }
+    ensures why { (e : FaultOf) → fault_of result ≡ Some e → answer ≡ upgraded (Err e) }
     ensures fits { (z : Sizes) (u v w : View) (x : TargetOf) → IsWhole z u change.now → target_at change.now index ≡ Some x →
         IsLocking u change.now index [] (so_many 0 0) v → Answers z (brings change.now) (upgrade x.stamp) answer v w → StageFits change.now result u w }
 {
@@ -246,6 +248,7 @@ fn upgraded(change: &Change, index: usize, answer: Answer) -> Apply
 #[inline(always)]
 fn locked(change: &Change, count: usize) -> Apply
     requires few { count ≤ targets change.now }
+    ensures sound { fault_of result ≡ None }
     ensures steps { count ≤ most_steps result }
     ensures fits { (u v : View) → IsLocking u change.now count [] (so_many 0 0) v → StageFits change.now result u v }
 {
@@ -258,6 +261,7 @@ fn locked(change: &Change, count: usize) -> Apply
 /// All targets are locked: the new nodes are claimed.
 #[inline(always)]
 fn claim_first(change: &Change) -> Apply
+    ensures sound { fault_of result ≡ None }
     ensures steps { 5 ≤ most_steps result }
     ensures fits { (u v : View) → IsLocking u change.now (targets change.now) [] (so_many 0 0) v → StageFits change.now result u v }
 {
@@ -270,6 +274,7 @@ fn claim_first(change: &Change) -> Apply
 /// The first new node is claimed, where there is one.
 #[inline(always)]
 fn claim_copy(change: &Change) -> Apply
+    ensures sound { fault_of result ≡ None }
     ensures steps { 6 ≤ most_steps result }
     ensures fits { (u v : View) → IsLocking u change.now (targets change.now) [] (so_many (claims change.now false) 0) v →
         StageFits change.now result u v }
@@ -283,6 +288,7 @@ fn claim_copy(change: &Change) -> Apply
 /// This new node was claimed.
 #[inline(always)]
 fn claimed(change: &Change, copy: bool) -> Apply
+    ensures sound { fault_of result ≡ None }
     ensures steps { most_steps (claiming copy) < most_steps result }
     ensures fits { (u v : View) → IsLocking u change.now (targets change.now) [] (claimed_so change.now copy) v →
         StageFits change.now result u v }
@@ -297,6 +303,7 @@ fn claimed(change: &Change, copy: bool) -> Apply
 /// All new nodes are claimed: their words are written.
 #[inline(always)]
 fn fill_first(change: &Change) -> Apply
+    ensures sound { fault_of result ≡ None }
     ensures steps { 8 ≤ most_steps result }
     ensures fits { (u v : View) →
         IsLocking u change.now (targets change.now) [] (so_many (claims change.now false) (claims change.now true)) v →
@@ -314,6 +321,7 @@ fn fill_first(change: &Change) -> Apply
 /// The words of the first new node are written, where there is one.
 #[inline(always)]
 fn fill_copy(change: &Change) -> Apply
+    ensures sound { fault_of result ≡ None }
     ensures steps { 274 ≤ most_steps result }
     ensures fits { (u v : View) →
         IsLocking u change.now (targets change.now) [] (so_many (filled_ends change.now false) (claims change.now true)) v →
@@ -333,6 +341,7 @@ fn fill_copy(change: &Change) -> Apply
 fn filled(change: &Change, copy: bool, place: usize) -> Apply
     requires some { 0 < place }
     requires few { place ≤ filled_ends change.now copy }
+    ensures sound { fault_of result ≡ None }
     ensures steps { most_steps (filling copy place) ≤ most_steps result }
     ensures fits { (u v : View) → IsLocking u change.now (targets change.now) [] (at_fill change.now copy place) v →
         StageFits change.now result u v }
@@ -354,6 +363,7 @@ fn filled(change: &Change, copy: bool, place: usize) -> Apply
 #[inline(always)]
 fn written(change: &Change, count: usize) -> Apply
     requires few { count ≤ length change.now.puts.items }
+    ensures sound { fault_of result ≡ None }
     ensures steps { 539 + count ≤ most_steps result }
     ensures fits { (u v : View) → IsLocking u change.now (targets change.now) (take count change.now.puts.items) (filled_ends change.now) v →
         StageFits change.now result u v }
@@ -370,6 +380,7 @@ fn written(change: &Change, count: usize) -> Apply
 fn released(change: &Change, count: usize) -> Apply
     requires few { count ≤ targets change.now }
     requires five { count ≤ 5 }
+    ensures sound { fault_of result ≡ None }
     ensures steps { 573 + count ≤ most_steps result }
     ensures fits { (u v : View) → IsReleasing u change.now count (filled_ends change.now) v → StageFits change.now result u v }
 {
@@ -385,6 +396,7 @@ fn released(change: &Change, count: usize) -> Apply
 /// All targets are released, and the first new node, where there is one.
 #[inline(always)]
 fn release_copy(change: &Change) -> Apply
+    ensures sound { fault_of result ≡ None }
     ensures steps { 579 ≤ most_steps result }
     ensures fits { (u v : View) →
         IsReleasing u change.now (targets change.now) (so_many 0 (filled_ends change.now true)) v → StageFits change.now result u v }
@@ -398,6 +410,7 @@ fn release_copy(change: &Change) -> Apply
 /// This new node was released.
 #[inline(always)]
 fn released_node(change: &Change, copy: bool) -> Apply
+    ensures sound { fault_of result ≡ None }
     ensures steps { most_steps (releasing_node copy) < most_steps result }
     ensures fits { (u v : View) → IsReleasing u change.now (targets change.now) (released_so change.now copy) v →
         StageFits change.now result u v }

@@ -223,22 +223,22 @@ module _ (z : Sizes) (b v : View) (r : Room) (a : Action) (left : ℕ) where
 
   -- ---- of an attempt
 
-  pub attempt_look : (i : Attempt) → length r.row.key.items ≤ 64 → (s : AttemptStage) → attempts.StageFits z b s i r v → (free_at s i.apply ≡ true → 0 < left) → attempts.asks_at s i r ≡ Some a → NeedsCurrent a
-      → IsEarlyBy (attempts.left_at left s i.apply)
+  pub attempt_look : (i : Attempt) → length r.row.key.items ≤ 64 → (s : AttemptStage) → attempts.StageFits z b s i r v → (free_at s ≡ true → 0 < left) → attempts.asks_at s i r ≡ Some a → NeedsCurrent a
+      → IsEarlyBy (attempts.left_at left s)
   attempt_look i short attempt.Finding fits some is look = (ap (λ (o : Rest). o.own) (free_so z b i r v short attempt.Finding refl refl fits).still.rest, many_tries left (some refl))
-  attempt_look i short attempt.Reserve fits some is look = absurd (no_look_supply a (supply_asks_supply r.row.key.items r.row.value r.stock i.reserve a is) look)
+  attempt_look i short (attempt.Reserve s) fits some is look = absurd (no_look_supply a (supply_asks_supply r.row.key.items r.row.value r.stock s a is) look)
   attempt_look i short (attempt.Reading q) fits some is look = (ap (λ (o : Rest). o.own) (free_so z b i r v short (attempt.Reading q) refl refl fits).still.rest, many_tries left (some refl))
   attempt_look i short (attempt.Validate s) fits some is look = (ap (λ (o : Rest). o.own) (free_so z b i r v short (attempt.Validate s) refl refl fits).still.rest, many_tries left (some refl))
   attempt_look i short (attempt.Naming byte n s) fits some is look = (ap (λ (o : Rest). o.own) (free_so z b i r v short (attempt.Naming byte n s) refl refl fits).still.rest, many_tries left (some refl))
-  attempt_look i short attempt.Apply fits some is look = look_change fits.0.early i.apply fits.0.base fits.0.fits some is look
+  attempt_look i short (attempt.Apply s) fits some is look = look_change fits.0.early s fits.0.base fits.0.fits some is look
   attempt_look i short (attempt.Ended e) fits some is look = absurd (cc)
 
   pub attempt_release : (i : Attempt) (s : AttemptStage) → attempts.StageFits z b s i r v → attempts.asks_at s i r ≡ Some a → IsRelease a → v.own ≡ b.own → v.failures ≤ b.failures
-      → 575 < attempts.left_at left s i.apply → ⊥
+      → 575 < attempts.left_at left s → ⊥
   attempt_release i attempt.Finding fits is up own few many = no_release_look a (ask_looks z (attempts.deed_at i r) v a (finding_allowed z b i r v fits a is)) up
-  attempt_release i attempt.Reserve fits is up own few many = no_release_supply a (supply_asks_supply r.row.key.items r.row.value r.stock i.reserve a is) up
+  attempt_release i (attempt.Reserve s) fits is up own few many = no_release_supply a (supply_asks_supply r.row.key.items r.row.value r.stock s a is) up
   attempt_release i (attempt.Reading q) fits is up own few many = no_release_look a (reads_look i.position.stamp q a is) up
   attempt_release i (attempt.Validate s) fits is up own few many = no_release_look a (validate_asks_look i.position (cells_of i.case i.position.verdict) s a is) up
   attempt_release i (attempt.Naming byte n s) fits is up own few many = no_release_look a (naming_asks_look i.position s a is) up
-  attempt_release i attempt.Apply fits is up own few many = release_change fits.0.early i.apply fits.0.base fits.0.fits is up own few many
+  attempt_release i (attempt.Apply s) fits is up own few many = release_change fits.0.early s fits.0.base fits.0.fits is up own few many
   attempt_release i (attempt.Ended e) fits is up own few many = absurd (cc)

@@ -47,11 +47,11 @@ use Rattle.art_step.specs.declared.views.View.{View}
 module _ (z : Sizes) (b : View) (r : Room) (v : View) where
   attempt_later : (i : Attempt) (s : AttemptStage) → attempts.StageFits z b s i r v → attempts.ending_at s ≡ None → b.failures ≤ v.failures
   attempt_later i attempt.Finding fits going = let first = fits.base.later.failures in let more = fits.later.failures in omega (arith, first, more)
-  attempt_later i attempt.Reserve fits going = let first = fits.0.base.later.failures in let more = fits.0.fits.only.failures in omega (arith, first, more)
+  attempt_later i (attempt.Reserve s) fits going = let first = fits.0.base.later.failures in let more = fits.0.fits.only.failures in omega (arith, first, more)
   attempt_later i (attempt.Reading q) fits going = let first = fits.0.base.later.failures in let more = fits.0.later.failures in omega (arith, first, more)
   attempt_later i (attempt.Validate s) fits going = let first = fits.0.base.later.failures in let more = fits.0.later.failures in omega (arith, first, more)
   attempt_later i (attempt.Naming byte n s) fits going = let first = fits.0.base.later.failures in let more = fits.0.later.failures in omega (arith, first, more)
-  attempt_later i attempt.Apply fits going = let first = fits.0.base.later.failures in let more = fits.0.later.failures in omega (arith, first, more)
+  attempt_later i (attempt.Apply s) fits going = let first = fits.0.base.later.failures in let more = fits.0.later.failures in omega (arith, first, more)
   attempt_later i (attempt.Ended e) fits going = absurd (cc)
 
 -- ---- a write

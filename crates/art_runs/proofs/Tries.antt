@@ -155,9 +155,9 @@ module _ (z : Sizes) (m : Memory) (u b v : View) (had : HasFound m u v) (timely 
       let so = free_so z b i r v short attempt.Finding refl refl fits in
       cell_founded (attempts.finding_asks i.job i.finding) is (ask_looks z (attempts.deed_at i r) v a (finding_allowed z b i r v fits a is)) so.still.free (place_led z v i.job (position_at i.finding) (descents.asks i.finding.descent.stage)
       (descent_founded z r.row.key.items (attempts.settled_of i.job r.row) i.finding.descent.depth i.finding.descent.stage fits.early v so.still.free fits.fits.descent))
-  attempt_founded i short attempt.Reserve fits is =
-      let so = free_so z b i r v short attempt.Reserve refl refl fits in
-      supplies_founded (demand_of z i.case i.position.verdict) r.row.key.items r.row.value fits.0.early i.reserve fits.0.base so.still fits.0.fits.stage is
+  attempt_founded i short (attempt.Reserve s) fits is =
+      let so = free_so z b i r v short (attempt.Reserve s) refl refl fits in
+      supplies_founded (demand_of z i.case i.position.verdict) r.row.key.items r.row.value fits.0.early s fits.0.base so.still fits.0.fits.stage is
   attempt_founded i short (attempt.Reading q) fits is =
       let so = free_so z b i r v short (attempt.Reading q) refl refl fits in
       cell_founded (attempts.reading_asks i q) is (reads_look i.position.stamp q a is) so.still.free (λ c asks. absurd (reads_only i.position.stamp q c asks))
@@ -168,5 +168,5 @@ module _ (z : Sizes) (m : Memory) (u b v : View) (had : HasFound m u v) (timely 
   attempt_founded i short (attempt.Naming byte n s) fits is =
       let so = free_so z b i r v short (attempt.Naming byte n s) refl refl fits in
       cell_founded (attempts.naming_asks i s) is (naming_asks_look i.position s a is) so.still.free (naming_begins z r.row.key.items i.position n s r.read_set r.lower fits.0.early v fits.0.fits.stage)
-  attempt_founded i short attempt.Apply fits is = change_founded fits.0.early i.apply fits.0.fits is
+  attempt_founded i short (attempt.Apply s) fits is = change_founded fits.0.early s fits.0.fits is
   attempt_founded i short (attempt.Ended e) fits is = absurd (cc)

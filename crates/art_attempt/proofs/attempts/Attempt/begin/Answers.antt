@@ -20,11 +20,11 @@ returns-clause-fits c z u v room so may = record {
       plain = may.planned.plain;
       leaf = may.leaf;
       deed = may.deed;
-      fits = c.new-self.ensures.fits z v (plain_whole z v c.args.room.now.change may.planned) so.still.free;
+      fits = c.new-apply.ensures.fits z v (plain_whole z v c.args.room.now.change may.planned) so.still.free;
     },
-    c.new-self.ensures.going c.requires,
+    c.new-apply.ensures.going c.requires,
   );
 }
 
 pub returns-clause-free : goal.returns-clause-free
-returns-clause-free c = ap is_begun (c.new-self.ensures.begun c.requires)
+returns-clause-free c = ap is_begun (c.new-apply.ensures.begun c.requires)

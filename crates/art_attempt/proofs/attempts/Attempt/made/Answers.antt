@@ -17,11 +17,11 @@ written_so z u m r v has Insert is = (is, has)
 written_so z u m r v has Remove is = (is, has, refl)
 
 pub returns-in-Ok-clause-fits : goal.returns-in-Ok-clause-fits
-returns-in-Ok-clause-fits c z u v room h is =
+returns-in-Ok-clause-fits c z u v s room h is =
     let m = c.args.self.now in
     let r = c.args.room.now in
     let then : Room = record r { stock = spent_by r.change r.stock } in
-    let so = written_so z u m then v (change_written z u m r v h c.args.made is c.in-Ok.is) m.job refl in
+    let so = written_so z u m then v (change_written z u m s r v h c.args.made is c.in-Ok.is) m.job refl in
     let ends : EndFits z u m then c.written.result v = subst (λ (e : Ending). EndFits z u m then e v) (sym (c.written.ensures ∙ ap (λ (q : Room). written m.job q.gone.value) c.spend.ensures)) so in
     record {
       room = subst (IsRoom z) (sym c.spend.ensures) (record { sizes = room.sizes; key = room.key });
@@ -29,10 +29,10 @@ returns-in-Ok-clause-fits c z u v room h is =
     }
 
 pub returns-in-Err-clause-fits : goal.returns-in-Err-clause-fits
-returns-in-Err-clause-fits c z u v room h is =
+returns-in-Err-clause-fits c z u v s room h is =
     let m = c.args.self.now in
     let r = c.args.room.now in
     record {
       room = room;
-      stage = subst (λ (e : Ending). EndFits z u m r e v) (sym c.given_up.ensures) (change_given_up z u m r v h c.args.made is c.in-Err.fault c.in-Err.is);
+      stage = subst (λ (e : Ending). EndFits z u m r e v) (sym c.given_up.ensures) (change_given_up z u m s r v h c.args.made is c.in-Err.fault c.in-Err.is);
     }

@@ -5,30 +5,23 @@ use Rattle.std.proofs.lemmas.Option.{same_Some}
 use Rattle.art_attempt.proofs.Commits.{made_admitted, made_on}
 use Rattle.art_attempt.proofs.Left.{by_end, run_begun, run_ended}
 use Rattle.art_attempt.proofs.Overlaps.{made_apart}
-use Rattle.art_attempt.specs.Attempts.{Fits, HasMade, StageFits, apply_left, ended_at, ending_at, ended_so, left_at, steps_left}
+use Rattle.art_attempt.proofs.Stages.{has_made}
+use Rattle.art_attempt.specs.Attempts.{apply_left, ending_at, ended_so, left_at, steps_left}
 use Rattle.art_attempt.specs.declared.attempts.Ending.{Ending}
 use Rattle.art_attempt.specs.declared.attempts.Ending.TheVariants.{Overlaps}
-use Rattle.art_attempt.specs.declared.attempts.Attempt.{Attempt}
 use Rattle.art_attempt.specs.declared.attempts.Stage.{Stage}
-use Rattle.art_attempt.specs.declared.attempts.Stage.TheVariants.{Apply}
-use Rattle.art_attempt.specs.declared.rooms.Room.{Room}
 use Rattle.art_make.specs.Apply.{is_begun}
 use Rattle.art_make.specs.Apply as apply
 use Rattle.art_step.specs.Deeds.{IsAdmitted}
 use Rattle.art_step.specs.declared.deeds.Deed.{Deed}
 use Rattle.art_step.specs.declared.faults.UpgradeFault.{UpgradeFault}
-use Rattle.art_step.specs.declared.views.Sizes.{Sizes}
-use Rattle.art_step.specs.declared.views.View.{View}
 use Rattle.art_attempt.proofs.attempts.Attempt.make_all.Goals as goal
-
-has_made : (z : Sizes) (u : View) (m : Attempt) (r : Room) (v : View) → m.stage ≡ Apply → Fits z u m r v → HasMade z u m r v
-has_made z u m r v is fits = (subst (λ (s : Stage). StageFits z u s m r v) is fits.stage).0
 
 pub run-requires-clause-admitted : goal.run-requires-clause-admitted
 run-requires-clause-admitted g c =
     let s = c.args.steps.now in
     let q = c.requires.fits in
-    let h = has_made (g.S.Steps.sizes s) q.0 c.args.self.now c.args.room.now (g.S.Steps.view s) c.requires.stage q.1 in
+    let h = has_made (g.S.Steps.sizes s) q.0 c.args.self.now c.args.room.now (g.S.Steps.view s) c.args.apply c.requires.stage q.1 in
     let r = c.args.room.now in
     subst (λ (d : Deed). IsAdmitted (g.S.Steps.admits s) d) (sym h.deed) (made_admitted (g.S.Steps.admits s) c.args.self.now.job r.row r.gone c.requires.admitted)
 
@@ -36,7 +29,7 @@ pub run-requires-clause-fits : goal.run-requires-clause-fits
 run-requires-clause-fits g c =
     let s = c.args.steps.now in
     let q = c.requires.fits in
-    let h = has_made (g.S.Steps.sizes s) q.0 c.args.self.now c.args.room.now (g.S.Steps.view s) c.requires.stage q.1 in
+    let h = has_made (g.S.Steps.sizes s) q.0 c.args.self.now c.args.room.now (g.S.Steps.view s) c.args.apply c.requires.stage q.1 in
     (h.early, h.fits)
 
 pub returns-clause-fits : goal.returns-clause-fits
@@ -46,13 +39,13 @@ returns-clause-fits g c u fits =
     let w = g.S.Steps.view c.run.new.steps in
     let m = c.args.self.now in
     let r = c.args.room.now in
-    let h = has_made z u m r v c.requires.stage fits in
-    c.make_on.ensures.fits z u w fits.room (made_on z u m r v h w c.run.new.self c.run.ensures.runs.keeps (c.run.ensures.fits h.early h.fits))
+    let h = has_made z u m r v c.args.apply c.requires.stage fits in
+    c.make_on.ensures.fits z u w fits.room (made_on z u m c.args.apply r v h w c.run.new.self c.run.ensures.runs.keeps (c.run.ensures.fits h.early h.fits))
 
 pub returns-clause-not_overlaps : goal.returns-clause-not_overlaps
 returns-clause-not_overlaps g c overlaps =
     by_end c.run.new.self
-    (λ is. let none = ap ended_at (c.make_on.ensures.going is) ∙ ap ending_at c.requires.stage in absurd (cc))
+    (λ is. let none = ap ending_at (c.make_on.ensures.going is) in absurd (cc))
     (λ made is. made_apart c.args.self.now.job c.args.room.now.gone.value made (same_Some {A = Ending} (ended_so c.args.self.now.job c.args.room.now.gone.value made) Overlaps (sym (ap ending_at (c.make_on.ensures.ended made is)) ∙ overlaps)))
 
 pub returns-clause-turn : goal.returns-clause-turn
@@ -77,14 +70,14 @@ returns-clause-left g c =
     let left = c.args.left.now in
     let left' = c.run.new.left in
     let runs = c.run.ensures.runs in
-    let begun : is_begun m.apply ≡ true → 0 < left = λ is. c.requires.turn in
-    subst (λ (n : ℕ). w.steps + steps_left left' c.make_on.new.self ≤ v.steps + n) (sym (ap (λ (s : Stage). left_at left s m.apply) c.requires.stage))
+    let s = c.args.apply in
+    let begun : is_begun s ≡ true → 0 < left = λ is. c.requires.turn in
+    subst (λ (n : ℕ). w.steps + steps_left left' c.make_on.new.self ≤ v.steps + n) (sym (ap (left_at left) c.requires.stage))
     (by_end next
-    (λ is. subst (λ (t : Attempt). w.steps + steps_left left' t ≤ v.steps + apply_left left m.apply) (sym (c.make_on.ensures.going is))
-    (subst (λ (s : Stage). w.steps + left_at left' s next ≤ v.steps + apply_left left m.apply) (sym c.requires.stage)
-    (run_begun left left' v w m.apply next begun runs (⊎_elim
+    (λ is. subst (λ (e : Stage). w.steps + left_at left' e ≤ v.steps + apply_left left s) (sym (c.make_on.ensures.going is))
+    (run_begun left left' v w s next begun runs (⊎_elim
     (λ (e : (r : Result ⊤ UpgradeFault) × (apply.ended_at next ≡ Some r)). let some = e.1 in absurd (cc))
     (λ (b : (is_begun next ≡ true) × (left' ≡ 1)). b.0)
-    c.run.ensures.last))))
-    (λ made is. subst (λ (s : Stage). w.steps + left_at left' s c.make_on.new.self.apply ≤ v.steps + apply_left left m.apply) (sym (c.make_on.ensures.ended made is))
-    (run_ended left left' v w m.apply next begun runs m.job c.args.room.now.gone.value made is)))
+    c.run.ensures.last)))
+    (λ made is. subst (λ (e : Stage). w.steps + left_at left' e ≤ v.steps + apply_left left s) (sym (c.make_on.ensures.ended made is))
+    (run_ended left left' v w s next begun runs m.job c.args.room.now.gone.value made is)))

@@ -7,8 +7,8 @@ use Rattle.art_attempt.specs.Reserve.{Fits as SupplyFits}
 use Rattle.art_attempt.specs.declared.reserve.Demand.{Demand}
 use Rattle.art_step.specs.declared.views.Sizes.{Sizes as SizesOf}
 
-pub new-self-requires : goal.new-self-requires
-new-self-requires c =
+pub new-reserve-requires : goal.new-reserve-requires
+new-reserve-requires c =
     let q = c.requires in
     let r = c.args.room.now in
     let k = r.row.key.items in
@@ -25,13 +25,13 @@ returns-clause-fits c z u v room so of standing wants =
     let value = r.row.value in
     let found = m.position.verdict in
     let same : c.demand-demand.result ≡ demand_of z c.args.case found = c.demand-demand.ensures ∙ ap (λ (y : SizesOf). demand_of y c.args.case found) room.sizes in
-    let fits = c.new-self.ensures.fits k value v (subst (λ (x : Demand). HasStock x.sizes k value v r.stock) (sym same) so.has) in
+    let fits = c.new-reserve.ensures.fits k value v (subst (λ (x : Demand). HasStock x.sizes k value v r.stock) (sym same) so.has) in
     c.supply_on.ensures.fits z u v (record { sizes = room.sizes; key = room.key }) (record {
       early = v;
       base = so.still;
       spent = so.spent;
       case = of;
       standing = standing;
-      wants = wants_same z u m.position r v c.args.case c.new-self.new.stock wants;
-      fits = subst (λ (x : Demand). SupplyFits x.sizes x k value c.new-self.result c.new-self.new.stock v v) same fits;
+      wants = wants_same z u m.position r v c.args.case c.new-reserve.new.stock wants;
+      fits = subst (λ (x : Demand). SupplyFits x.sizes x k value c.new-reserve.result c.new-reserve.new.stock v v) same fits;
     })

@@ -1,20 +1,12 @@
 -- The reserve runs, and what it came to is looked at.
 use Rattle.std.proofs.Common.{◌≡◌, ◌∙◌, ℕ, List, sym, ap, subst}
-use Rattle.art_attempt.specs.Attempts.{Fits, HasSupplies, StageFits}
+use Rattle.art_attempt.proofs.Stages.{has_supplies}
 use Rattle.art_attempt.proofs.Chosen.{wants_same}
 use Rattle.art_attempt.specs.Cases.{demand_of}
-use Rattle.art_attempt.specs.declared.attempts.Attempt.{Attempt}
-use Rattle.art_attempt.specs.declared.attempts.Stage.{Stage}
-use Rattle.art_attempt.specs.declared.attempts.Stage.TheVariants.{Reserve}
-use Rattle.art_attempt.specs.declared.rooms.Room.{Room}
 use Rattle.art_attempt.specs.Reserve.{Fits as SupplyFits}
 use Rattle.art_attempt.specs.declared.reserve.Demand.{Demand}
 use Rattle.art_step.specs.declared.views.Sizes.{Sizes}
-use Rattle.art_step.specs.declared.views.View.{View}
 use Rattle.art_attempt.proofs.attempts.Attempt.supply_all.Goals as goal
-
-has_supplies : (z : Sizes) (u : View) (m : Attempt) (r : Room) (v : View) → m.stage ≡ Reserve → Fits z u m r v → HasSupplies z u m r v
-has_supplies z u m r v is fits = (subst (λ (s : Stage). StageFits z u s m r v) is fits.stage).0
 
 pub run-requires-clause-fits : goal.run-requires-clause-fits
 run-requires-clause-fits g c =
@@ -23,10 +15,10 @@ run-requires-clause-fits g c =
     let m = c.args.self.now in
     let r = c.args.room.now in
     let q = c.requires.fits in
-    let h = has_supplies z q.0 m r v c.requires.stage q.1 in
+    let h = has_supplies z q.0 m r v c.args.reserve c.requires.stage q.1 in
     let same : demand_of z m.case m.position.verdict ≡ c.demand-demand.result = sym (c.demand-demand.ensures ∙ ap (λ (y : Sizes). demand_of y m.case m.position.verdict) q.1.room.sizes) in
-    let asked = subst (λ (x : Demand). SupplyFits z x r.row.key.items r.row.value m.reserve r.stock h.early v) same h.fits in
-    (h.early, subst (λ (l : List ℕ). SupplyFits z c.demand-demand.result l r.row.value m.reserve r.stock h.early v) (sym c.as_slice-key.ensures.value) asked)
+    let asked = subst (λ (x : Demand). SupplyFits z x r.row.key.items r.row.value c.args.reserve r.stock h.early v) same h.fits in
+    (h.early, subst (λ (l : List ℕ). SupplyFits z c.demand-demand.result l r.row.value c.args.reserve r.stock h.early v) (sym c.as_slice-key.ensures.value) asked)
 
 pub returns-clause-fits : goal.returns-clause-fits
 returns-clause-fits g c u fits =
@@ -35,11 +27,11 @@ returns-clause-fits g c u fits =
     let w = g.S.Steps.view c.run.new.steps in
     let m = c.args.self.now in
     let r = c.args.room.now in
-    let h = has_supplies z u m r v c.requires.stage fits in
+    let h = has_supplies z u m r v c.args.reserve c.requires.stage fits in
     let same : demand_of z m.case m.position.verdict ≡ c.demand-demand.result = sym (c.demand-demand.ensures ∙ ap (λ (y : Sizes). demand_of y m.case m.position.verdict) fits.room.sizes) in
     let k = r.row.key.items in
-    let asked = subst (λ (x : Demand). SupplyFits z x k r.row.value m.reserve r.stock h.early v) same h.fits in
-    let after = c.run.ensures.fits h.early (subst (λ (l : List ℕ). SupplyFits z c.demand-demand.result l r.row.value m.reserve r.stock h.early v) (sym c.as_slice-key.ensures.value) asked) in
+    let asked = subst (λ (x : Demand). SupplyFits z x k r.row.value c.args.reserve r.stock h.early v) same h.fits in
+    let after = c.run.ensures.fits h.early (subst (λ (l : List ℕ). SupplyFits z c.demand-demand.result l r.row.value c.args.reserve r.stock h.early v) (sym c.as_slice-key.ensures.value) asked) in
     let then = subst (λ (l : List ℕ). SupplyFits z c.demand-demand.result l r.row.value c.run.new.self c.run.new.stock h.early w) c.as_slice-key.ensures.value after in
     c.supply_on.ensures.fits z u w (record { sizes = fits.room.sizes; key = fits.room.key }) (record {
       early = h.early;

@@ -13,7 +13,7 @@ returns-clause-fits c z u v w asked room h is row =
     let k = r.row.key.items in
     let value = r.row.value in
     let same : demand_of z m.case m.position.verdict ≡ c.demand-demand.result = sym (c.demand-demand.ensures ∙ ap (λ (y : SizesOf). demand_of y m.case m.position.verdict) room.sizes) in
-    let fits = c.told.ensures.fits z k value h.early v w asked (subst (λ (x : Demand). SupplyFits z x k value m.reserve r.stock h.early v) same h.fits) is row in
+    let fits = c.told.ensures.fits z k value h.early v w asked (subst (λ (x : Demand). SupplyFits z x k value c.args.reserve r.stock h.early v) same h.fits) is row in
     c.supply_on.ensures.fits z u w (record { sizes = room.sizes; key = room.key }) (record {
       early = h.early;
       base = h.base;

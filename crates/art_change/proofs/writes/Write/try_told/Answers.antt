@@ -63,7 +63,7 @@ returns-in-None-clause-restarts c = inl c.turn.ensures.restarts
 pub returns-in-Some-clause-restarts : goal.returns-in-Some-clause-restarts
 returns-in-Some-clause-restarts c = ⊎_elim
     (λ (same : c.conclude.new.self.restarts ≡ c.args.self.now.restarts). inl same)
-    (λ (anew : c.in-Some.ending ≡ Restart). inr (c.told.new.self, c.told.ensures.anew (sym c.ended.ensures.at ∙ (c.in-Some.is ∙ ap (λ (e : Ending). Some e) anew))))
+    (λ (anew : c.in-Some.ending ≡ Restart). inr (c.told.ensures.anew (sym c.ended.ensures.at ∙ (c.in-Some.is ∙ ap (λ (e : Ending). Some e) anew))))
     c.conclude.ensures.restarts
 
 pub returns-in-None-clause-overlaps : goal.returns-in-None-clause-overlaps
