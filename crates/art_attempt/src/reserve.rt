@@ -252,7 +252,8 @@ fn leaf_sought(stock: &mut Stock, taking: Taking) -> Reserve
 /// A word of the leaf was written.
 #[inline(always)]
 fn leaf_packed(demand: &Demand, stock: &mut Stock, leaf_writer: LeafWriter) -> Reserve
-    requires { (z : SizesOf) × (k : List ℕ) × (value : ℕ) × (u : View) × (v : View) × (w : View) × (asked : ActionOf) × (answer : AnswerOf) ×
+    requires { (z : SizesOf) × (k : List ℕ) × (value : ℕ) × (u : View) × (v : View) × (w : View) × (asked : ActionOf) ×
+        (answer : AnswerOf) ×
         Fits z demand.now k value (packed leaf_writer) stock.old u v × (asks k value stock.old (packed leaf_writer) ≡ Some asked) ×
         Answers z None asked answer v w }
     ensures keeps { HasLeafWords stock.old → HasLeafWords stock.new }

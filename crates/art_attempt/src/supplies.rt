@@ -63,7 +63,8 @@ impl Attempt {
     #[inline(always)]
     pub(crate) fn supply_told(&mut self, room: &mut Room, reserve: Reserve, answer: Answer)
         requires { (z : Sizes) × (u : View) × (v : View) × (w : View) × (asked : ActionOf) × IsRoom z room.old ×
-            HasSupplies z u self.old reserve room.old v × (supply_asks reserve room.old ≡ Some asked) × ActionAnswers z None asked answer v w }
+            HasSupplies z u self.old reserve room.old v × (supply_asks reserve room.old ≡ Some asked) ×
+            ActionAnswers z None asked answer v w }
         ensures kept { IsSameTry self.old self.new room.old room.new }
         ensures not_anew { ended_at self.new ≢ Some anew }
         ensures not_overlaps { ended_at self.new ≢ Some overlaps }

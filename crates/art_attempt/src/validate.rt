@@ -292,7 +292,8 @@ fn from_below(
     ensures going { ended_at result ≡ None }
     ensures few { steps_left result ≤ left_after role }
     ensures fits { (z : Sizes) (k : List ℕ) (u v : View) → Knows z k position.now cells.now read_set.now lower.now u v →
-        Until (KnowsWords position.now cells.now read_set.now lower.now) role → KnowsWords position.now cells.now read_set.now lower.now role →
+        Until (KnowsWords position.now cells.now read_set.now lower.now) role →
+        KnowsWords position.now cells.now read_set.now lower.now role →
         HasLeft u v (left_after role) 798 → Fits z k position.now cells.now result read_set.now lower.now u v }
 {
     match role {

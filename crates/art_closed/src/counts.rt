@@ -29,7 +29,8 @@ pub struct PoolCount {
 /// no memory.
 pub fn count(words: &Ended, pool: Pool, waiting: u32) -> PoolCount
     requires whole { HasAllWords (sizes_left words.now) words.now }
-    requires known { (passes : List PassOf) × HasWaiting (sizes_left words.now) (memory_in (sizes_left words.now) words.now) pool waiting passes }
+    requires known { (passes : List PassOf) ×
+        HasWaiting (sizes_left words.now) (memory_in (sizes_left words.now) words.now) pool waiting passes }
     ensures { (passes : List PassOf) → HasWaiting (sizes_left words.now) (memory_in (sizes_left words.now) words.now) pool waiting passes
         → IsCounted (sizes_left words.now) (memory_in (sizes_left words.now) words.now) passes pool result }
 {

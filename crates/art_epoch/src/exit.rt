@@ -61,7 +61,8 @@ impl Exit {
     /// The step that it asked for was made, and answered so.
     pub fn told(&mut self, limbo: &mut Limbo, stock: &mut Stock, unlinked: &[u64], answer: Answer)
         requires few { length unlinked.now ≤ 3 }
-        requires fits { (z : Sizes) × (k : List ℕ) × (value : ℕ) × (u : View) × (v : View) × (w : View) × (ps : List Place) × (asked : ActionOf) ×
+        requires fits { (z : Sizes) × (k : List ℕ) × (value : ℕ) × (u : View) × (v : View) × (w : View) × (ps : List Place) ×
+            (asked : ActionOf) ×
             ExitFits z k value u ps (links_of unlinked.now) self.old (places_of limbo.old) stock.old v ×
             (asks self.old stock.old ≡ Some asked) × Answers z None asked answer v w }
         ensures left { steps_left self.new stock.new < steps_left self.old stock.old }
@@ -106,7 +107,8 @@ fn labelled(limbo: &mut Limbo, unlinked: &[u64], epoch: u64) -> Exit
     requires room { length (places_of limbo.old) + length (links_of unlinked.now) ≤ 64 }
     ensures next { result ≡ giving }
     ensures retires { (z : Sizes) (v w : View) → IsLimbo (places_of limbo.old) (links_of unlinked.now) v.limbo →
-        Answers z None read_epoch (word_told epoch) v w → Retires z v w (places_of limbo.old) (places_of limbo.new) (links_of unlinked.now) }
+        Answers z None read_epoch (word_told epoch) v w →
+        Retires z v w (places_of limbo.old) (places_of limbo.new) (links_of unlinked.now) }
 {
     Retiring.told(limbo, numbers_of(unlinked), epoch);
     Exit::Giving

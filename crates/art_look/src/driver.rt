@@ -104,7 +104,8 @@ pub fn step<S: EpochSteps>(
     ensures one { (S.view steps.new).steps ≡ (S.view steps.old).steps + 1 }
     ensures asked { asks seek.old ≡ Some result.action }
     ensures allowed { MaySeek (S.sizes steps.old) (Settles seek.old.walk key.now path_buffer.old) (S.view steps.old) result.action }
-    ensures row { (answer : AnswerOf) × Answers (S.sizes steps.old) (telling (deed_at seek.old.walk key.now hi.now path_buffer.old)) result.action answer
+    ensures row { (answer : AnswerOf) ×
+        Answers (S.sizes steps.old) (telling (deed_at seek.old.walk key.now hi.now path_buffer.old)) result.action answer
         (S.view steps.old) (S.view steps.new) × (result.stepped ≡ stepped_by result.action answer) }
     ensures refuses { WillBeBusy seek.old → WillBeBusy seek.new }
     ensures counted { is_counted result.stepped ≡ is_walking seek.old.stage }

@@ -55,7 +55,8 @@ impl Seek {
     /// Makes the steps that are left of the pin.
     #[inline(always)]
     fn pin<S: EpochSteps>(&mut self, steps: &mut S)
-        requires fits { (k : List ℕ) × (hi : KeyBound) × (t : PathBufferOf) × IsUnderWay (S.sizes steps.old) k hi self.old t (S.view steps.old) }
+        requires fits { (k : List ℕ) × (hi : KeyBound) × (t : PathBufferOf) ×
+            IsUnderWay (S.sizes steps.old) k hi self.old t (S.view steps.old) }
         ensures only { S.only steps.old steps.new }
         ensures pinned { self.new.stage ≢ stages.Pinning }
         ensures goes { (k : List ℕ) (hi : KeyBound) (t : PathBufferOf) →
@@ -70,7 +71,8 @@ impl Seek {
     #[inline(always)]
     fn pin_on<S: EpochSteps>(&mut self, steps: &mut S)
         requires stage { self.old.stage ≡ stages.Pinning }
-        requires fits { (k : List ℕ) × (hi : KeyBound) × (t : PathBufferOf) × IsUnderWay (S.sizes steps.old) k hi self.old t (S.view steps.old) }
+        requires fits { (k : List ℕ) × (hi : KeyBound) × (t : PathBufferOf) ×
+            IsUnderWay (S.sizes steps.old) k hi self.old t (S.view steps.old) }
         ensures only { S.only steps.old steps.new }
         ensures less { steps_left self.new < steps_left self.old }
         ensures goes { (k : List ℕ) (hi : KeyBound) (t : PathBufferOf) →
@@ -137,7 +139,8 @@ impl Seek {
     #[inline(always)]
     fn go_idle<S: EpochSteps>(&mut self, steps: &mut S)
         requires stage { self.old.stage ≡ stages.Closing }
-        requires fits { (k : List ℕ) × (hi : KeyBound) × (t : PathBufferOf) × IsUnderWay (S.sizes steps.old) k hi self.old t (S.view steps.old) }
+        requires fits { (k : List ℕ) × (hi : KeyBound) × (t : PathBufferOf) ×
+            IsUnderWay (S.sizes steps.old) k hi self.old t (S.view steps.old) }
         ensures only { S.only steps.old steps.new }
         ensures ended { (o : OutcomeOf) × (ended_at self.new ≡ Some o) }
         ensures goes { (k : List ℕ) (hi : KeyBound) (t : PathBufferOf) →

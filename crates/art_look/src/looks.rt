@@ -149,7 +149,8 @@ impl Look {
     pub fn new() -> Look
         ensures steps { (most_steps result.depth result.stage ≡ 0) × (least_steps result.stage ≡ 0) }
         ensures going { has_ended result.stage ≡ false }
-        ensures fits { (z : Sizes) (lo : List ℕ) (hi : KeyBound) (t : PathBufferOf) (u v : View) → IsReading u v → Fits z lo hi result t u v }
+        ensures fits { (z : Sizes) (lo : List ℕ) (hi : KeyBound) (t : PathBufferOf) (u v : View) → IsReading u v →
+            Fits z lo hi result t u v }
     {
         Look {
             depth: 0,
@@ -241,7 +242,8 @@ impl Look {
         ensures least { least_steps self.new.stage ≤ least_steps self.old.stage + 1 }
         ensures fits { (z : Sizes) (hi : KeyBound) (u v w : View) (asked : ActionOf) →
             Fits z lo.now hi self.old path_buffer.old u v → asks self.old.stage ≡ Some asked →
-            Answers z (telling (deed_at lo.now hi path_buffer.old self.old.stage)) asked answer v w → Fits z lo.now hi self.new path_buffer.new u w }
+            Answers z (telling (deed_at lo.now hi path_buffer.old self.old.stage)) asked answer v w →
+            Fits z lo.now hi self.new path_buffer.new u w }
     {
         match answer {
             Answer::Begun { result: Ok(stamp) } => self.began(stamp),
@@ -335,7 +337,8 @@ impl Look {
         ensures start { self.new ≡ record self.old { stage = lookstages.Start } }
         ensures steps { most_steps self.new.depth self.new.stage ≡ 0 }
         ensures least { least_steps self.new.stage ≡ 0 }
-        ensures fits { (z : Sizes) (lo : List ℕ) (hi : KeyBound) (t : PathBufferOf) (u v : View) → IsReading u v → Fits z lo hi self.new t u v }
+        ensures fits { (z : Sizes) (lo : List ℕ) (hi : KeyBound) (t : PathBufferOf) (u v : View) → IsReading u v →
+            Fits z lo hi self.new t u v }
     {
         self.stage = LookStage::Start;
     }

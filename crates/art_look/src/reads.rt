@@ -42,7 +42,8 @@ impl Look {
         ensures least { least_steps self.new.stage ≤ least_steps self.old.stage + 1 }
         ensures fits { (z : Sizes) (hi : KeyBound) (u v w : View) (asked : ActionOf) →
             Fits z lo.now hi self.old path_buffer.old u v → asks self.old.stage ≡ Some asked →
-            Answers z (telling (deed_at lo.now hi path_buffer.old self.old.stage)) asked (told.Word word) v w → Fits z lo.now hi self.new path_buffer.new u w }
+            Answers z (telling (deed_at lo.now hi path_buffer.old self.old.stage)) asked (told.Word word) v w →
+            Fits z lo.now hi self.new path_buffer.new u w }
     {
         self.read_at(self.stage, lo, path_buffer, word);
     }
@@ -64,7 +65,8 @@ impl Look {
         ensures least { least_steps self.new.stage ≤ least_steps self.old.stage + 1 }
         ensures fits { (z : Sizes) (hi : KeyBound) (u v w : View) (asked : ActionOf) →
             Fits z lo.now hi self.old path_buffer.old u v → asks self.old.stage ≡ Some asked →
-            Answers z (telling (deed_at lo.now hi path_buffer.old self.old.stage)) asked (told.Word word) v w → Fits z lo.now hi self.new path_buffer.new u w }
+            Answers z (telling (deed_at lo.now hi path_buffer.old self.old.stage)) asked (told.Word word) v w →
+            Fits z lo.now hi self.new path_buffer.new u w }
     {
         match stage {
             LookStage::Anchor(stamp) => self.see_root(path_buffer, stamp, word),

@@ -102,7 +102,8 @@ impl Seek {
         ensures left { steps_left self.new < steps_left self.old }
         ensures fits { (z : Sizes) (hi : KeyBound) (u v w : View) (asked : ActionOf) →
             Fits z key.now hi u self.old path_buffer.old v → asks self.old ≡ Some asked →
-            Answers z (telling (deed_at self.old.walk key.now hi path_buffer.old)) asked answer v w → Fits z key.now hi u self.new path_buffer.new w }
+            Answers z (telling (deed_at self.old.walk key.now hi path_buffer.old)) asked answer v w →
+            Fits z key.now hi u self.new path_buffer.new w }
     {
         match self.stage {
             SeekStage::Pinning => self.pin_told(answer),
@@ -267,7 +268,8 @@ impl Seek {
         ensures left { steps_left self.new < left_at stages.Walking self.old }
         ensures fits { (z : Sizes) (hi : KeyBound) (u v w : View) (asked : ActionOf) →
             IsWalking z key.now hi u self.old path_buffer.old v → walks.asks self.old.walk ≡ Some asked →
-            Answers z (telling (deed_at self.old.walk key.now hi path_buffer.old)) asked answer v w → Fits z key.now hi u self.new path_buffer.new w }
+            Answers z (telling (deed_at self.old.walk key.now hi path_buffer.old)) asked answer v w →
+            Fits z key.now hi u self.new path_buffer.new w }
     {
         self.left -= 1;
         if !self.walk.told(key, path_buffer, answer) {

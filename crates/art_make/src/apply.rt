@@ -233,7 +233,8 @@ fn upgraded(change: &Change, index: usize, answer: Answer) -> Apply
     ensures refused { (e : FaultOf) → answer ≡ upgraded (Err e) → fault_of result ≡ Some e }
     ensures why { (e : FaultOf) → fault_of result ≡ Some e → answer ≡ upgraded (Err e) }
     ensures fits { (z : Sizes) (u v w : View) (x : TargetOf) → IsWhole z u change.now → target_at change.now index ≡ Some x →
-        IsLocking u change.now index [] (so_many 0 0) v → Answers z (brings change.now) (upgrade x.stamp) answer v w → StageFits change.now result u w }
+        IsLocking u change.now index [] (so_many 0 0) v → Answers z (brings change.now) (upgrade x.stamp) answer v w →
+        StageFits change.now result u w }
 {
     let Answer::Upgraded { result } = answer else {
         unreachable!();
@@ -365,7 +366,8 @@ fn written(change: &Change, count: usize) -> Apply
     requires few { count ≤ length change.now.puts.items }
     ensures sound { fault_of result ≡ None }
     ensures steps { 539 + count ≤ most_steps result }
-    ensures fits { (u v : View) → IsLocking u change.now (targets change.now) (take count change.now.puts.items) (filled_ends change.now) v →
+    ensures fits { (u v : View) →
+        IsLocking u change.now (targets change.now) (take count change.now.puts.items) (filled_ends change.now) v →
         StageFits change.now result u v }
 {
     if count < change.puts.len() {

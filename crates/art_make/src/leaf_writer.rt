@@ -23,7 +23,8 @@ impl LeafWriter {
     /// At its beginning: no word is written.
     pub fn new() -> LeafWriter
         ensures place { result.place ≡ 0 }
-        ensures fits { (z : Sizes) (l : ℕ) (k : List ℕ) (value : ℕ) (u : View) → IsLeafInHand z u l → LeafWriterFits z l k value result u u }
+        ensures fits { (z : Sizes) (l : ℕ) (k : List ℕ) (value : ℕ) (u : View) → IsLeafInHand z u l →
+            LeafWriterFits z l k value result u u }
     {
         LeafWriter { place: 0 }
     }

@@ -54,7 +54,8 @@ impl Looking {
             IsLooking table.now lo hi limit turns p rows.old.items self.old }
         ensures made { Progresses (sizes_in table.now) (view_of self.old.attempt.pass) (view_of self.new.attempt.pass) result }
         ensures ended { result ≡ Progress.Ended → LooksNoMore table.now rows.new.items self.new }
-        ensures goes_on { (lo hi : TupleOf) (limit turns : ℕ) (p : PassOf) → IsLooking table.now lo hi limit turns p rows.old.items self.old →
+        ensures goes_on { (lo hi : TupleOf) (limit turns : ℕ) (p : PassOf) →
+            IsLooking table.now lo hi limit turns p rows.old.items self.old →
             IsLooking table.now lo hi limit turns p rows.new.items self.new }
     {
         'looks: loop {

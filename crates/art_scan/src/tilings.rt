@@ -41,7 +41,8 @@ impl Tiling {
         ensures fault { IfErr result (λ f. scan_fault schema.now lo.now hi.now limit ≡ Some f) }
         ensures none { OnOk result (scan_fault schema.now lo.now hi.now limit ≡ None) }
         ensures stands { OnOk result (StandsIn schema.now lo.now × StandsIn schema.now hi.now) }
-        ensures range { IfOk result (λ g. (g.from ≡ bound_at schema.now lo.now) × (bound_of g.end ≡ after (spelling schema.now hi.now.items))) }
+        ensures range { IfOk result (λ g. (g.from ≡ bound_at schema.now lo.now) ×
+            (bound_of g.end ≡ after (spelling schema.now hi.now.items))) }
         ensures order { IfOk result (λ g. is_before g.from g.end ≡ true) }
         ensures limit { IfOk result (λ g. (g.limit ≡ limit) × (0 < limit) × (limit ≤ 100)) }
         ensures turns { IfOk result (λ g. g.turns ≡ turns) }

@@ -65,7 +65,8 @@ impl Attempt {
         requires { (j : JobOf) × (turns : ℕ) × (p : PassOf) × IsAttempt table.now j turns p self.old }
         ensures made { Progresses (sizes_in table.now) (view_of self.old.pass) (view_of self.new.pass) result }
         ensures ended { result ≡ Progress.Ended → HasStopped self.new }
-        ensures goes_on { (j : JobOf) (turns : ℕ) (p : PassOf) → IsAttempt table.now j turns p self.old → IsAttempt table.now j turns p self.new }
+        ensures goes_on { (j : JobOf) (turns : ℕ) (p : PassOf) → IsAttempt table.now j turns p self.old →
+            IsAttempt table.now j turns p self.new }
     {
         if self.refused.is_some() {
             return Progress::Ended;
@@ -105,7 +106,8 @@ impl Attempt {
     pub fn finish(self, table: &Table) -> (Pass, Result<Outcome, Fault>)
         requires { (j : JobOf) × (turns : ℕ) × (p : PassOf) × IsAttempt table.now j turns p self }
         ensures pass { IsPassOf table.now result.0 }
-        ensures ends { (j : JobOf) (turns : ℕ) (p : PassOf) → IsAttempt table.now j turns p self → Ends table.now j turns p result.1 result.0 }
+        ensures ends { (j : JobOf) (turns : ℕ) (p : PassOf) → IsAttempt table.now j turns p self →
+            Ends table.now j turns p result.1 result.0 }
     {
         let Attempt { mut pass, refused } = self;
         if let Some(fault) = refused {

@@ -98,7 +98,8 @@ impl Pass {
     pub(crate) fn step(&mut self, table: &Table) -> Option<Made>
         requires { (j : JobOf) × (given : ℕ) × (turns : ℕ) × (p : PassOf) × IsUnderWay table.now j given turns p self.old }
         ensures some { IfSome result (MakesStep (sizes_in table.now) (view_of self.old) (view_of self.new)) }
-        ensures none { IfNone result ((view_of self.new ≡ view_of self.old) × ((o : CallOutcome) × (outcome_at (caller_of self.new) ≡ Some o))) }
+        ensures none { IfNone result ((view_of self.new ≡ view_of self.old) × ((o : CallOutcome) ×
+            (outcome_at (caller_of self.new) ≡ Some o))) }
         ensures goes_on { (j : JobOf) (given turns : ℕ) (p : PassOf) → IsUnderWay table.now j given turns p self.old →
             IsUnderWay table.now j given turns p self.new }
     {
