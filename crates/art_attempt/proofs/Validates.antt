@@ -24,7 +24,7 @@ use Rattle.art_attempt.proofs.RereadsGoOn.{more_reads}
 use Rattle.art_attempt.proofs.Standing.{above_after, below_grows, here_after, leads_grow, names_on, passed_found, passed_just, passed_later, passed_stays, stands_grows, under_over}
 use Rattle.art_attempt.specs.Naming.{IsBelow, KnowsHere, StillStands}
 use Rattle.art_attempt.specs.Reserve.{StayFound}
-use Rattle.art_attempt.specs.Validate.{BelowFits, CheckedSince, Each, Fits, HasLeft, IsRereading, Knows, KnowsWords, NodeStays, OthersStay, StageFits, Until, WasChecked}
+use Rattle.art_attempt.specs.Validate.{BelowFits, CheckedSince, Each, Fits, HasLeft, IsRereading, Knows, KnowsWords, NodeStays, OthersStay, StageFits, Until, RoleWasChecked}
 use Rattle.art_attempt.specs.Validate.{after_check, asks, check_below, checks_of, ended_at, first_check, left_from, next_check, reads_by, reads_of, stamp_above, stamp_below, stamp_of}
 use Rattle.art_attempt.specs.declared.validate.Cells.{Cells}
 use Rattle.art_attempt.specs.declared.validate.Role.{Role}
@@ -265,7 +265,7 @@ module _ (z : Sizes) (k : List ℕ) (t : Position) (o : Cells) (read_set : ReadS
 
 module _ (z : Sizes) (k : List ℕ) (t : Position) (o : Cells) (read_set : ReadSet) (lower : List (Option ℕ)) (u v w : View) where
   abbrev So : View → Role → Type 0
-  So s = WasChecked z k t o read_set lower u s
+  So s = RoleWasChecked z k t o read_set lower u s
 
   -- one that succeeded stays so
   was_on : v.steps ≤ w.steps → StayFound v w → (role : Role) → So v role → So w role

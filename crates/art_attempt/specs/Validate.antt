@@ -171,8 +171,8 @@ pub record CheckedSince (z : Sizes) (k : List ℕ) (t : Position) (o : Cells) (r
   pub found : FoundAt x after.steps v
 
 -- a check of the cell in this role succeeded, if it is validated
-abbrev pub WasChecked : Sizes → List ℕ → Position → Cells → ReadSet → List (Option ℕ) → View → View → Role → Type 0
-WasChecked z k t o read_set lower u v role =
+abbrev pub RoleWasChecked : Sizes → List ℕ → Position → Cells → ReadSet → List (Option ℕ) → View → View → Role → Type 0
+RoleWasChecked z k t o read_set lower u v role =
     (x : Stamp) → stamp_of t o role ≡ Some x → CheckedSince z k t o read_set lower u x v
 
 -- the last check that succeeded came after the view u, and what the pass knew then it knows now
@@ -186,7 +186,7 @@ pub record HasJustChecked (u v : View) : Type 0 where
 pub record IsValidated (z : Sizes) (k : List ℕ) (t : Position) (o : Cells) (read_set : ReadSet) (lower : List (Option ℕ)) (u v : View)
     : Type 0 where
   pub words : Each (KnowsWords t o read_set lower)
-  pub checked : Each (WasChecked z k t o read_set lower u v)
+  pub checked : Each (RoleWasChecked z k t o read_set lower u v)
   pub just : HasJustChecked u v
 
 -- words of the cell in this role are read
@@ -202,7 +202,7 @@ abbrev pub StageFits : Sizes → List ℕ → Position → Cells → Validate �
 StageFits z k t o (Read role r) read_set lower u v = Knows z k t o read_set lower u v × Until (KnowsWords t o read_set lower) role ×
     IsRereading z t o read_set lower v role r
 StageFits z k t o (Check role) read_set lower u v = Knows z k t o read_set lower u v × Each (KnowsWords t o read_set lower) ×
-    Until (WasChecked z k t o read_set lower u v) role × ((x : Stamp) × (stamp_of t o role ≡ Some x))
+    Until (RoleWasChecked z k t o read_set lower u v) role × ((x : Stamp) × (stamp_of t o role ≡ Some x))
 StageFits z k t o (Ended Unchanged) read_set lower u v = Knows z k t o read_set lower u v × IsValidated z k t o read_set lower u v
 StageFits z k t o (Ended Changed) read_set lower u v = IsReading u v
 
