@@ -60,6 +60,7 @@ mod frees;
 mod needs;
 mod plans;
 
-pub use bodies::{Bodies, byte_at, fill, site_at};
+pub use bodies::Bodies;
+pub(crate) use bodies::{byte_at, fill, site_at};
 pub use needs::{Needs, needed};
 pub use plans::plan_insert;

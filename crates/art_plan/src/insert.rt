@@ -47,7 +47,8 @@ mod forks;
 mod grows;
 mod leaves;
 
-pub use adds::add;
-pub use forks::{fork_leaf, fork_prefix};
-pub use grows::grow;
-pub use leaves::{NewLeaf, Parting};
+pub(crate) use adds::add;
+pub(crate) use forks::{fork_leaf, fork_prefix};
+pub(crate) use grows::grow;
+pub use leaves::NewLeaf;
+pub(crate) use leaves::Parting;

@@ -64,12 +64,12 @@ mod sites;
 
 pub use art_find;
 pub use changes::{Change, Put, Target, Twin};
-pub use choose_insert::{Bodies, Needs, byte_at, fill, needed, plan_insert, site_at};
+pub use choose_insert::{Bodies, Needs, needed, plan_insert};
 pub use choose_remove::{
     Loss, Lower, lost, other_child, plan_drop, plan_merge_leaf, plan_merge_node, plan_shrink,
 };
-pub use insert::{NewLeaf, Parting, add, fork_leaf, fork_prefix, grow};
-pub use parts::{Below, begin, lock, make, put, unlink};
-pub use remove::{OldLeaf, drop, merge_leaf, merge_node, shrink};
+pub use insert::NewLeaf;
+pub use parts::Below;
+pub use remove::OldLeaf;
 pub use renewals::{renew, renew_below};
-pub use sites::{Site, added, dropped, replaced};
+pub use sites::Site;

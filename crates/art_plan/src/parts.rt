@@ -15,7 +15,7 @@ pub struct Below<'a> {
 }
 
 /// Makes it a change that does the deed and links this leaf, or none; it locks, writes, makes and unlinks nothing yet.
-pub fn begin(change: &mut Change, deed: Deed, leaf: Option<u32>)
+pub(crate) fn begin(change: &mut Change, deed: Deed, leaf: Option<u32>)
     ensures { change.new ≡ change_of [] [] change.old.writes.items None change.old.body leaf [] deed }
 {
     change.targets.clear();
@@ -31,7 +31,7 @@ pub fn begin(change: &mut Change, deed: Deed, leaf: Option<u32>)
 }
 
 /// Locks one more cell, below the others.
-pub fn lock(change: &mut Change, stamp: Stamp, obsolete: bool)
+pub(crate) fn lock(change: &mut Change, stamp: Stamp, obsolete: bool)
     requires { length change.old.targets.items < 3 }
     ensures { change.new ≡ record change.old {
       targets = record { items = change.old.targets.items ++ record { stamp = stamp; obsolete = obsolete } ∷ [] };
@@ -41,7 +41,7 @@ pub fn lock(change: &mut Change, stamp: Stamp, obsolete: bool)
 }
 
 /// Unlinks one more cell, by its child word.
-pub fn unlink(change: &mut Change, child: u64)
+pub(crate) fn unlink(change: &mut Change, child: u64)
     requires { length change.old.effects.unlinked.items < 3 }
     ensures { change.new ≡ record change.old {
       effects = record change.old.effects { unlinked = record { items = change.old.effects.unlinked.items ++ child ∷ [] } };
@@ -51,14 +51,14 @@ pub fn unlink(change: &mut Change, child: u64)
 }
 
 /// Makes a node with this number, of which the body has all words.
-pub fn make(change: &mut Change, number: u32)
+pub(crate) fn make(change: &mut Change, number: u32)
     ensures { change.new ≡ record change.old { node = Some number } }
 {
     change.node = Some(number);
 }
 
 /// Writes the words that were planned into the target with an index, after those of before.
-pub fn put(change: &mut Change, target: usize)
+pub(crate) fn put(change: &mut Change, target: usize)
     requires { length change.old.puts.items + length change.old.writes.items ≤ 32 }
     ensures { change.new ≡ record change.old {
       puts = record { items = change.old.puts.items ++ puts_of target change.old.writes.items };

@@ -59,7 +59,7 @@ mod leaves;
 mod merges;
 mod shrinks;
 
-pub use drops::drop;
+pub(crate) use drops::drop;
 pub use leaves::OldLeaf;
-pub use merges::{merge_leaf, merge_node};
-pub use shrinks::shrink;
+pub(crate) use merges::{merge_leaf, merge_node};
+pub(crate) use shrinks::shrink;

@@ -18,7 +18,8 @@ ghost use Rattle.art_step.specs.Views.{Member};
 ghost use Rattle.art_step.specs.declared.views.Sizes.{Sizes};
 ghost use Rattle.art_step.specs.declared.views.View.{View};
 
-use crate::{Below, Change, Put, Site, Target, Twin, replaced};
+use crate::sites::replaced;
+use crate::{Below, Change, Put, Site, Target, Twin};
 use arrayvec::ArrayVec;
 use art_cell::{Body, Link, Node, NodeKind, Write};
 use art_node::child_word as word_of_link;

@@ -33,7 +33,7 @@ impl Site<'_> {
 }
 
 /// Makes the writes the words by which the site, which is free, gets this child.
-pub fn added(site: &Site, child: u64, writes: &mut Writes)
+pub(crate) fn added(site: &Site, child: u64, writes: &mut Writes)
     requires free { IsFree site.now }
     requires child { 0 < child }
     ensures plan { IsSitePlan site.now child writes.new.items }
@@ -48,7 +48,7 @@ pub fn added(site: &Site, child: u64, writes: &mut Writes)
 }
 
 /// Makes the writes the words by which the site, which has a child, gets this one.
-pub fn replaced(site: &Site, child: u64, writes: &mut Writes)
+pub(crate) fn replaced(site: &Site, child: u64, writes: &mut Writes)
     requires taken { IsTaken site.now }
     requires child { 0 < child }
     ensures plan { IsSitePlan site.now child writes.new.items }
@@ -61,7 +61,7 @@ pub fn replaced(site: &Site, child: u64, writes: &mut Writes)
 }
 
 /// Makes the writes the words by which the site, which has a child, loses it.
-pub fn dropped(site: &Site, writes: &mut Writes)
+pub(crate) fn dropped(site: &Site, writes: &mut Writes)
     requires { IsTaken site.now }
     ensures plan { IsDropPlan site.now writes.new.items }
     ensures few { length writes.new.items ≤ most_writes }

@@ -36,7 +36,7 @@ impl Bodies {
 }
 
 /// Fills the body with the words of the cell that were read, if it is a node.
-pub fn fill(body: &mut Body, cell: Cell, reads: &Reads)
+pub(crate) fn fill(body: &mut Body, cell: Cell, reads: &Reads)
     requires { AreWithin cell reads.now }
     ensures { IsFilled cell reads.now body.new }
 {
@@ -49,7 +49,7 @@ pub fn fill(body: &mut Body, cell: Cell, reads: &Reads)
 
 /// Where the child word stands in the stamp's cell to which the first bytes of the key lead, so many. The body has the words of the
 /// cell, if it is a node.
-pub fn site_at<'a>(stamp: Stamp, body: &'a Body, key: &[u8], depth: usize) -> Site<'a>
+pub(crate) fn site_at<'a>(stamp: Stamp, body: &'a Body, key: &[u8], depth: usize) -> Site<'a>
     requires deep { depth ≤ length key.now }
     requires some { (n : NodeOf) → stamp.cell ≡ cells.Node n → 0 < depth }
     ensures site { result ≡ site_in stamp body.entry (slice_index key.now (depth - 1)) }
@@ -75,7 +75,7 @@ pub(crate) fn slot_at<'a>(stamp: Stamp, body: &'a Body, key: &[u8], index: usize
 }
 
 /// The byte of the key with this index.
-pub fn byte_at(key: &[u8], index: usize) -> u8
+pub(crate) fn byte_at(key: &[u8], index: usize) -> u8
     requires { index < length key.now }
     ensures byte { result ≡ slice_index key.now index }
     ensures low { result < 256 }

@@ -11,12 +11,14 @@ ghost use Rattle.art_step.specs.declared.views.Sizes.{Sizes};
 ghost use Rattle.art_step.specs.declared.views.View.{View};
 
 use crate::insert::leaves::{NewLeaf, begin};
-use crate::{Change, Site, added, lock, put};
+use crate::parts::{lock, put};
+use crate::sites::added;
+use crate::{Change, Site};
 use art_cell::Link;
 use art_node::child_word;
 
 /// The leaf comes to the site, which is free: the anchor that names nothing, or a byte of a node that is not full.
-pub fn add(change: &mut Change, site: &Site, new: &NewLeaf)
+pub(crate) fn add(change: &mut Change, site: &Site, new: &NewLeaf)
     requires { IsFree site.now }
     ensures planned { (z : Sizes) (u : View) (depth : ℕ) → IsAdd z u site.now new.now depth → IsPlanned z u change.new }
     ensures targets { targets change.new ≡ 1 }

@@ -13,14 +13,16 @@ ghost use Rattle.art_step.specs.declared.views.Sizes.{Sizes};
 ghost use Rattle.art_step.specs.declared.views.View.{View};
 
 use crate::insert::leaves::{NewLeaf, Parting, begin};
-use crate::{Below, Change, Site, lock, make, put, replaced};
+use crate::parts::{lock, make, put};
+use crate::sites::replaced;
+use crate::{Below, Change, Site};
 use art_cell::{Layout, Link, Node};
 use art_node::{child_word, fork, plan_prefix};
 use art_path::split;
 
 /// Another leaf stands at the site, with this byte where the keys part: a new Node4 has what the keys have in common as its
 /// prefix, and both leaves.
-pub fn fork_leaf(
+pub(crate) fn fork_leaf(
     change: &mut Change,
     site: &Site,
     new: &NewLeaf,
@@ -63,7 +65,7 @@ pub fn fork_leaf(
 
 /// The node below the site has this prefix, which parts from the key: a new Node4 has what both have in common as its prefix, the
 /// node, which keeps the bytes after that one, and the leaf.
-pub fn fork_prefix(
+pub(crate) fn fork_prefix(
     change: &mut Change,
     site: &Site,
     below: &Below,

@@ -16,7 +16,9 @@ ghost use Rattle.art_step.specs.declared.views.Sizes.{Sizes};
 ghost use Rattle.art_step.specs.declared.views.View.{View};
 
 use crate::insert::leaves::{NewLeaf, begin};
-use crate::{Below, Change, Site, lock, make, put, replaced, unlink};
+use crate::parts::{lock, make, put, unlink};
+use crate::sites::replaced;
+use crate::{Below, Change, Site};
 use art_cell::{Body, Layout, Link, Node, NodeKind};
 use art_node::child_word;
 use art_node16::Node16;
@@ -25,7 +27,14 @@ use art_node256::Node256;
 
 /// The node below the site has no place for the leaf at the byte: the next larger one has its children and the leaf, and takes
 /// its place.
-pub fn grow(change: &mut Change, site: &Site, below: &Below, byte: u8, new: &NewLeaf, made: u32)
+pub(crate) fn grow(
+    change: &mut Change,
+    site: &Site,
+    below: &Below,
+    byte: u8,
+    new: &NewLeaf,
+    made: u32,
+)
     requires taken { IsTaken site.now }
     requires crowded { IsCrowded below.now.body.now byte }
     ensures planned { (z : Sizes) (u : View) (depth : ℕ)

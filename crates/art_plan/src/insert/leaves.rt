@@ -18,7 +18,7 @@ pub struct NewLeaf {
 
 /// Where a key parts from what stands at a site.
 #[derive(Clone, Copy)]
-pub struct Parting {
+pub(crate) struct Parting {
     /// So many bytes of the key lead to the site.
     pub depth: usize,
     /// So many bytes after them are common to both.
@@ -31,5 +31,5 @@ pub(crate) fn begin(change: &mut Change, leaf: &NewLeaf)
 {
     let key = Key::try_from(leaf.key.as_slice()).unwrap();
     let deed = Deed::Done(Act::Insert(key, leaf.value), Answer::Inserted);
-    crate::begin(change, deed, Some(leaf.number));
+    crate::parts::begin(change, deed, Some(leaf.number));
 }

@@ -9,13 +9,15 @@ ghost use Rattle.art_plan.specs.Remove.Removals.{KeepsTwo, remove_effects};
 ghost use Rattle.art_step.specs.declared.views.Sizes.{Sizes};
 ghost use Rattle.art_step.specs.declared.views.View.{View};
 
+use crate::parts::{lock, put, unlink};
 use crate::remove::leaves::{OldLeaf, begin};
-use crate::{Change, Site, dropped, lock, put, unlink};
+use crate::sites::dropped;
+use crate::{Change, Site};
 use art_cell::Link;
 use art_node::child_word;
 
 /// The leaf goes from the site: the anchor, or a byte of a node that keeps two children.
-pub fn drop(change: &mut Change, site: &Site, old: &OldLeaf)
+pub(crate) fn drop(change: &mut Change, site: &Site, old: &OldLeaf)
     requires taken { IsTaken site.now }
     requires two { KeepsTwo site.now }
     ensures planned { (z : Sizes) (u : View) (depth : ℕ) → IsDrop z u site.now old.now depth → IsPlanned z u change.new }

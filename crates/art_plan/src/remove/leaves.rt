@@ -22,5 +22,5 @@ pub(crate) fn begin(change: &mut Change, leaf: &OldLeaf)
 {
     let key = Key::try_from(leaf.key.as_slice()).unwrap();
     let deed = Deed::Done(Act::Remove(key), Answer::Removed(leaf.value));
-    crate::begin(change, deed, None);
+    crate::parts::begin(change, deed, None);
 }

@@ -12,14 +12,16 @@ ghost use Rattle.art_plan.specs.Remove.Removals.{IsTooLong, joined, removed, rem
 ghost use Rattle.art_step.specs.declared.views.Sizes.{Sizes};
 ghost use Rattle.art_step.specs.declared.views.View.{View};
 
+use crate::parts::{lock, put, unlink};
 use crate::remove::leaves::{OldLeaf, begin};
-use crate::{Below, Change, Site, lock, put, replaced, unlink};
+use crate::sites::replaced;
+use crate::{Below, Change, Site};
 use art_cell::Link;
 use art_node::{child_word, plan_prefix};
 use art_path::{Parts, join};
 
 /// The leaf goes from the node below the site, which has one other child, a leaf: that one takes the node's place.
-pub fn merge_leaf(change: &mut Change, site: &Site, below: &Below, other: u32, old: &OldLeaf)
+pub(crate) fn merge_leaf(change: &mut Change, site: &Site, below: &Below, other: u32, old: &OldLeaf)
     requires { IsTaken site.now }
     ensures planned { (z : Sizes) (u : View) (depth byte beside : ℕ)
         → IsMergeLeaf z u site.now old.now depth below.now byte beside other → IsPlanned z u change.new }
@@ -41,7 +43,7 @@ pub fn merge_leaf(change: &mut Change, site: &Site, below: &Below, other: u32, o
 
 /// The leaf goes from the node below the site, which has one other child, a node: that one takes its place, and has the node's
 /// prefix, its own byte and its own prefix as its prefix, which are the parts. False where these are more than 64 bytes.
-pub fn merge_node(
+pub(crate) fn merge_node(
     change: &mut Change,
     site: &Site,
     below: &Below,

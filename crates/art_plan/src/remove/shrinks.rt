@@ -15,8 +15,10 @@ ghost use Rattle.art_plan.specs.Remove.Removals.{IsSparse, smaller_node, remove_
 ghost use Rattle.art_step.specs.declared.views.Sizes.{Sizes};
 ghost use Rattle.art_step.specs.declared.views.View.{View};
 
+use crate::parts::{lock, make, put, unlink};
 use crate::remove::leaves::{OldLeaf, begin};
-use crate::{Below, Change, Site, lock, make, put, replaced, unlink};
+use crate::sites::replaced;
+use crate::{Below, Change, Site};
 use art_cell::{Body, Layout, Link, Node, NodeKind};
 use art_node::child_word;
 use art_node4::Node4;
@@ -25,7 +27,14 @@ use art_node48::Node48;
 use art_node256::Node256;
 
 /// The leaf goes from a byte of the node below the site: the next smaller one has the other children, and takes its place.
-pub fn shrink(change: &mut Change, site: &Site, below: &Below, byte: u8, old: &OldLeaf, made: u32)
+pub(crate) fn shrink(
+    change: &mut Change,
+    site: &Site,
+    below: &Below,
+    byte: u8,
+    old: &OldLeaf,
+    made: u32,
+)
     requires taken { IsTaken site.now }
     requires sparse { IsSparse below.now.body.now byte }
     ensures planned { (z : Sizes) (u : View) (depth : ℕ)
