@@ -18,13 +18,6 @@ use Rattle.art_step.specs.declared.views.Event.{Event}
 use Rattle.art_step.specs.declared.views.Sizes.{Sizes}
 use Rattle.art_step.specs.declared.views.View.{View}
 
--- the close has ended
-pub closed_at : (z : Sizes) (k : List ℕ) (value : ℕ) (u v : View) (ps qs : List Place) (m : Write) (r : Room) (c : Exit) → is_ended c ≡ true
-    → ExitFits z k value u ps (links_of (gone_by m.outcome r.change)) c qs r.stock v → IsClosed z u v ps qs (links_of (gone_by m.outcome r.change))
-closed_at z k value u v ps qs m r exit.Ended is fits = fits.0
-closed_at z k value u v ps qs m r exit.Labelling is fits = cc
-closed_at z k value u v ps qs m r exit.Giving is fits = cc
-
 -- the frame tells nothing
 module _ (u opened ended v : View) (seen : opened.seen ≡ u.seen) (own : opened.own ≡ u.own) (pass : opened.pass ≡ u.pass) (seen' : v.seen ≡ ended.seen) (own' : v.own ≡ ended.own) where
   event_all : (what : Deed) → MakesEvent opened ended what → MakesEvent u v what
@@ -45,35 +38,35 @@ module _ (u opened ended v : View) (seen : opened.seen ≡ u.seen) (own : opened
 
 module _ (z : Sizes) (u : View) (ps : List Place) (m : Write) (r : Room) (qs : List Place) (v : View) where
   -- what its attempts left since the pass was pinned
-  pub left_opened : (k : IsExiting z u ps m r qs v) → IsLeft z k.opened m.job (record r { stock = k.stock }) m.outcome k.ended
-  left_opened k =
-      left_since z k.opened k.began k.begun.base m.job (record r { stock = k.stock }) m.outcome k.ended
-      (left_by z k.began (record r { stock = k.stock }) k.ended m.job m.attempt m.outcome m.left k.outcome)
+  pub left_opened : (x : Exit) (o : Outcome) (k : IsExiting z u ps m x o r qs v) → IsLeft z k.opened m.job (record r { stock = k.stock }) o k.ended
+  left_opened x o k =
+      left_since z k.opened k.began k.begun.base m.job (record r { stock = k.stock }) o k.ended
+      (left_by z k.began (record r { stock = k.stock }) k.ended m.job k.position k.case o m.left k.outcome)
 
-  exit_answers : IsExiting z u ps m r qs v → is_ended m.exit ≡ true → HasAnswered z u m.job m.outcome r.row.key r.row.value qs v
-  exit_answers k is =
-      let closed = closed_at z r.row.key.items r.row.value k.ended v k.waiting qs m r m.exit is k.fits in
+  exit_answers : (o : Outcome) → IsExiting z u ps m exit.Ended o r qs v → HasAnswered z u m.job o r.row.key r.row.value qs v
+  exit_answers o k =
+      let closed = k.fits.0 in
       record {
         idle = ap (λ (t : View). t.pin) closed.is;
         free = closed.free;
         limbo = closed.limbo;
         tells = sees_all u k.opened k.ended v (ap (λ (t : View). t.seen) k.frame.frame.is) (ap (λ (t : View). t.own) k.frame.frame.is) (ap (λ (t : View). t.pass) k.frame.frame.is)
-            (ap (λ (t : View). t.seen) closed.is) (ap (λ (t : View). t.own) closed.is) (told_by m.outcome m.job r.row.key r.row.value)
-            (left_opened k).tells;
+            (ap (λ (t : View). t.seen) closed.is) (ap (λ (t : View). t.own) closed.is) (told_by o m.job r.row.key r.row.value)
+            (left_opened exit.Ended o k).tells;
       }
 
-  pub answered : (o : Outcome) → m.outcome ≡ o → IsDone z u ps o m r qs v → HasAnswered z u m.job o r.row.key r.row.value qs v
-  answered (Crowded b) is done = record {
+  pub answered : (o : Outcome) → IsDone z u ps o m r qs v → HasAnswered z u m.job o r.row.key r.row.value qs v
+  answered (Crowded b) done = record {
     idle = done.0.idle;
     free = ap (λ (t : View). t.held) done.0.only ∙ done.1;
     limbo = done.0.limbo;
     tells = (ap (λ (t : View). t.seen) done.0.only, ap (λ (t : View). t.own) done.0.only);
   }
-  answered New is done = subst (λ (o : Outcome). HasAnswered z u m.job o r.row.key r.row.value qs v) is (exit_answers done.0 done.1)
-  answered (Present stands) is done = subst (λ (o : Outcome). HasAnswered z u m.job o r.row.key r.row.value qs v) is (exit_answers done.0 done.1)
-  answered (Gone value) is done = subst (λ (o : Outcome). HasAnswered z u m.job o r.row.key r.row.value qs v) is (exit_answers done.0 done.1)
-  answered Absent is done = subst (λ (o : Outcome). HasAnswered z u m.job o r.row.key r.row.value qs v) is (exit_answers done.0 done.1)
-  answered (Full pool) is done = subst (λ (o : Outcome). HasAnswered z u m.job o r.row.key r.row.value qs v) is (exit_answers done.0 done.1)
-  answered (Exhausted c) is done = subst (λ (o : Outcome). HasAnswered z u m.job o r.row.key r.row.value qs v) is (exit_answers done.0 done.1)
-  answered Overlaps is done = subst (λ (o : Outcome). HasAnswered z u m.job o r.row.key r.row.value qs v) is (exit_answers done.0 done.1)
-  answered Busy is done = subst (λ (o : Outcome). HasAnswered z u m.job o r.row.key r.row.value qs v) is (exit_answers done.0 done.1)
+  answered New done = exit_answers New done
+  answered (Present stands) done = exit_answers (Present stands) done
+  answered (Gone value) done = exit_answers (Gone value) done
+  answered Absent done = exit_answers Absent done
+  answered (Full pool) done = exit_answers (Full pool) done
+  answered (Exhausted c) done = exit_answers (Exhausted c) done
+  answered Overlaps done = exit_answers Overlaps done
+  answered Busy done = exit_answers Busy done

@@ -15,7 +15,7 @@ use Rattle.art_attempt.specs.declared.attempts.Stage.TheVariants as stage
 use Rattle.art_attempt.specs.declared.cases.Case.{Case}
 use Rattle.art_attempt.specs.declared.rooms.Room.{Room}
 use Rattle.art_cell.specs.declared.cells.Link.{Link}
-use Rattle.art_change.specs.Writes.{HasOutcome, OutcomeBy, gone_by, told_by}
+use Rattle.art_change.specs.Writes.{OutcomeBy, gone_by, told_by}
 use Rattle.art_change.specs.declared.writes.Outcome.{Outcome}
 use Rattle.art_change.specs.declared.writes.Outcome.TheVariants.{New, Present, Gone, Absent, Full, Exhausted, Overlaps, Busy, Crowded}
 use Rattle.art_epoch.specs.Limbo.{IsLimbo}
@@ -118,23 +118,20 @@ module _ (z : Sizes) (u : View) (r : Room) (v : View) where
     tells = subst (λ (o : Option Deed). SeesEvent u v o) (sym tells) h.event;
   }
 
-  left_of : (j : Job) (t : Position) (c : Case) (o : Outcome) (left : ℕ) → OutcomeBy z u j t c r o left v → IsLeft z u j r o v
-  left_of Insert t c New left h = written_left Insert New t c h.1 refl h.1.event
-  left_of Insert t c (Present stands) left h = settled_left Insert (Present stands) _ h.1 refl refl
-  left_of Remove t c (Gone value) left h = written_left Remove (Gone value) t c h.1 refl (subst (λ (n : ℕ). SeesEvent u v (told_by (Gone n) Remove r.row.key r.row.value)) h.2 h.1.event)
-  left_of Remove t c Absent left h = settled_left Remove Absent _ h.1 refl refl
-  left_of Remove t c New left h = let no = h.0 in cc
-  left_of Remove t c (Present stands) left h = let no = h.0 in cc
-  left_of Insert t c (Gone value) left h = let no = h.0 in cc
-  left_of Insert t c Absent left h = let no = h.0 in cc
-  left_of j t c (Full pool) left h = so_left j (Full pool) refl refl h.1
-  left_of j t c (Exhausted x) left h = so_left j (Exhausted x) refl refl h.0
-  left_of j t c Overlaps left h = so_left j Overlaps refl refl h.1
-  left_of j t c Busy left h = so_left j Busy refl refl h.0
-  left_of j t c (Crowded b) left h = absurd h
-
-  pub left_by : (j : Job) (t : Attempt) (o : Outcome) (left : ℕ) → HasOutcome z u j t r o left v → IsLeft z u j r o v
-  left_by j t o left h = left_of j t.position t.case o left (subst (λ (k : Job). OutcomeBy z u k t.position t.case r o left v) h.job h.fits)
+  pub left_by : (j : Job) (t : Position) (c : Case) (o : Outcome) (left : ℕ) → OutcomeBy z u j t c r o left v → IsLeft z u j r o v
+  left_by Insert t c New left h = written_left Insert New t c h.1 refl h.1.event
+  left_by Insert t c (Present stands) left h = settled_left Insert (Present stands) _ h.1 refl refl
+  left_by Remove t c (Gone value) left h = written_left Remove (Gone value) t c h.1 refl (subst (λ (n : ℕ). SeesEvent u v (told_by (Gone n) Remove r.row.key r.row.value)) h.2 h.1.event)
+  left_by Remove t c Absent left h = settled_left Remove Absent _ h.1 refl refl
+  left_by Remove t c New left h = let no = h.0 in cc
+  left_by Remove t c (Present stands) left h = let no = h.0 in cc
+  left_by Insert t c (Gone value) left h = let no = h.0 in cc
+  left_by Insert t c Absent left h = let no = h.0 in cc
+  left_by j t c (Full pool) left h = so_left j (Full pool) refl refl h.1
+  left_by j t c (Exhausted x) left h = so_left j (Exhausted x) refl refl h.0
+  left_by j t c Overlaps left h = so_left j Overlaps refl refl h.1
+  left_by j t c Busy left h = so_left j Busy refl refl h.0
+  left_by j t c (Crowded b) left h = absurd h
 
 -- what an attempt left that began later is left since the pass was pinned
 module _ (z : Sizes) (u b : View) (base : StillTries u b) where

@@ -1,5 +1,5 @@
 -- A step of an opening or of a close is one step, and brings nothing about.
-use Rattle.std.proofs.Common.{◌≡◌, ◌∙◌, ◌+◌, nat_lt, Bool, true, false, if◌then◌else◌, List, length, Option, Some, None, ap, subst}
+use Rattle.std.proofs.Common.{◌≡◌, ◌∙◌, ◌+◌, nat_lt, Bool, true, false, if◌then◌else◌, List, length, Option, Some, None, ap, refl, subst}
 use Rattle.std.proofs.lemmas.Option.{same_Some}
 use Rattle.std.specs.Prelude.{⊤}
 use Rattle.art_cell.specs.declared.cells.Link.{Link}
@@ -69,6 +69,12 @@ pub exit_frame : (m : Exit) (s : Stock) (a : Action) → exits.asks m s ≡ Some
 exit_frame exit.Labelling s a is = subst IsFrame (same_Some ReadEpoch a is) tt
 exit_frame exit.Giving s a is = subst IsFrame (same_Some (exits.gives s) a is) (gives_frame (first_in s))
 exit_frame exit.Ended s a is = absurd (cc)
+
+-- a close that has not ended asks for a step
+pub exit_going : (m : Exit) (s : Stock) → exits.is_ended m ≡ false → (a : Action) × (exits.asks m s ≡ Some a)
+exit_going exit.Labelling s going = (ReadEpoch, refl)
+exit_going exit.Giving s going = (exits.gives s, refl)
+exit_going exit.Ended s going = absurd (cc)
 
 -- ---- what such a step is
 

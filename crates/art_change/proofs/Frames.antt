@@ -1,19 +1,25 @@
 -- From the opening to the attempts, and from the last attempt to the close.
-use Rattle.std.proofs.Common.{◌≡◌, ℕ, ◌+◌, ◌-◌, ◌<◌, ◌≤◌, ◌==◌, true, false, List, [], ◌∷◌, length, Option, Some, None, refl, ap, ◌∙◌, subst, arith, ⊎_elim}
+use Rattle.std.proofs.Common.{◌≡◌, ℕ, ◌+◌, ◌-◌, ◌<◌, ◌≤◌, ◌==◌, true, false, List, [], ◌∷◌, length, Option, Some, None, refl, sym, ap, ◌∙◌, subst, arith, ⊎_elim}
 use Rattle.std.proofs.lemmas.Bool.{cases_Bool, eqb-true}
 use Rattle.std.proofs.lemmas.Option.{same_Some}
-use Rattle.art_attempt.proofs.Left.{free_few}
 use Rattle.art_attempt.proofs.Tries.{later_first, still_then}
-use Rattle.art_attempt.specs.Attempts.{EndFits, EndsSo, Fits, HasHand, IsRoom, ended_at, ended_left, is_free, tries_left}
+use Rattle.art_attempt.specs.Attempts.{EndsBy, EndsSo, HasHand, IsRoom, ended_left, tries_left}
 use Rattle.art_attempt.specs.Trying.{StillTries}
 use Rattle.art_attempt.specs.declared.rooms.Room.{Room}
 use Rattle.art_change.proofs.Endings.{left_by, left_since}
-use Rattle.art_change.specs.Writes.{HasBegun, HasOutcome, IsExiting, IsDone, IsFirst, IsEntering, OutcomeBy, SameRow, given, gone_by, or_busy, outcome_of}
+use Rattle.art_change.proofs.Staged.{asked_at, fits_at, made_at, steps_at}
+use Rattle.art_change.specs.Writes.{Answers, Fits, HasBegun, StageFits, asks, asks_at, brings_at, left_at, steps_left as write_left, IsExiting, IsDone, IsEntering, OutcomeBy, SameRow, given, gone_by, or_busy, outcome_of}
 use Rattle.art_attempt.specs.declared.attempts.Job.{Job}
 use Rattle.art_attempt.specs.declared.attempts.Ending.{Ending}
 use Rattle.art_attempt.specs.declared.attempts.Ending.TheVariants as ending
-use Rattle.art_attempt.specs.declared.attempts.Attempt.{Attempt}
+use Rattle.art_attempt.specs.declared.cases.Case.{Case}
+use Rattle.art_find.specs.declared.findings.Position.{Position}
+use Rattle.art_change.specs.declared.writes.Stage.{Stage}
+use Rattle.art_change.specs.declared.writes.Stage.TheVariants as stages
 use Rattle.art_change.specs.declared.writes.Write.{Write}
+use Rattle.art_machine.specs.Acting as acting
+use Rattle.art_machine.specs.declared.actions.Action.{Action}
+use Rattle.art_machine.specs.declared.actions.Answer.{Answer}
 use Rattle.art_change.specs.declared.writes.Outcome.{Outcome}
 use Rattle.art_change.specs.declared.writes.Outcome.TheVariants.{New, Present, Gone, Absent, Full, Exhausted, Overlaps, Busy, Crowded}
 use Rattle.std.specs.List.{cons_option}
@@ -23,6 +29,9 @@ use Rattle.art_epoch.specs.declared.limbo.Place.{Place}
 use Rattle.art_epoch.proofs.Stocked.{at_most_five, stock_hinted, stock_same}
 use Rattle.art_epoch.specs.Exit.{MayClose, begins, is_ended, steps_left}
 use Rattle.art_epoch.specs.Enter.{IsOpened}
+use Rattle.art_epoch.specs.declared.enter.Enter.{Enter}
+use Rattle.art_epoch.specs.declared.exit.Exit.{Exit}
+use Rattle.art_epoch.specs.declared.exit.Exit.TheVariants as exit
 use Rattle.art_epoch.specs.declared.stocks.Stock.{Stock}
 use Rattle.art_step.specs.Tokens.{links_of}
 use Rattle.art_step.specs.declared.views.Sizes.{Sizes}
@@ -43,8 +52,9 @@ given_has : (z : Sizes) (o : Option Link) (u : View) (r : Room) → HasHand z u 
 given_has z (Some d) u r has = stock_hinted z r.row.key.items r.row.value u d r.stock has
 given_has z None u r has = has
 
-pub given_enter : (z : Sizes) (u : View) (ps : List Place) (m : Write) (o : Option Link) (r : Room) (qs : List Place) (v : View) → IsEntering z u ps m r qs v → IsEntering z u ps m (given o r) qs v
-given_enter z u ps m o r qs v i = record {
+pub given_enter : (z : Sizes) (u : View) (ps : List Place) (m : Write) (e : Enter) (o : Option Link) (r : Room) (qs : List Place) (v : View) → IsEntering z u ps m e r qs v
+    → IsEntering z u ps m e (given o r) qs v
+given_enter z u ps m e o r qs v i = record {
   enter = i.enter;
   going = i.going;
   free = i.free;
@@ -52,8 +62,25 @@ given_enter z u ps m o r qs v i = record {
   later = i.later;
   full = i.full;
   fresh = i.fresh;
-  first = i.first;
 }
+
+-- so the opening goes on in a room that is as it was but for that
+module _ (m : Write) (e : Enter) (at : m.stage ≡ stages.Enter e) (o : Option Link) (r s : Room) (is : s ≡ given o r) where
+  pub given_fits : (z : Sizes) (u : View) (ps qs : List Place) (v : View) → Fits z u ps m r qs v → Fits z u ps m s qs v
+  given_fits z u ps qs v fits = subst (λ (a : Room). Fits z u ps m a qs v) (sym is) record {
+    room = given_room z o r fits.room;
+    stage = subst (λ (a : Stage). StageFits z u ps a m (given o r) qs v) (sym at)
+        (given_enter z u ps m e o r qs v (fits_at m r (stages.Enter e) at z u ps qs v fits));
+  }
+
+  pub given_asks : (qs : List Place) (a : Option Action) → asks m r qs ≡ a → asks m s qs ≡ a
+  given_asks qs a asked = ap (λ (b : Stage). asks_at b s qs) at ∙ asked_at m r (stages.Enter e) at qs a asked
+
+  pub given_row : (z : Sizes) (a : Action) (answer : Answer) (v w : View) → Answers z m r a answer v w → Answers z m s a answer v w
+  given_row z a answer v w row = subst (λ (b : Stage). acting.Answers z (brings_at b s a) a answer v w) (sym at) (made_at m r (stages.Enter e) at z a answer v w row)
+
+  pub given_steps : (qs : List Place) → write_left m s qs ≡ write_left m r qs
+  given_steps qs = ap (λ (b : Stage). left_at b m.left s qs) at ∙ sym (steps_at m r (stages.Enter e) at qs)
 
 -- ---- an attempt begins
 
@@ -102,10 +129,10 @@ links_fewer : (words : List ℕ) → length (links_of words) ≤ length words
 links_fewer [] = omega arith
 links_fewer (word ∷ words) = let rest = links_fewer words in let one = cons_more (link_of word) (links_of words) in omega (arith, rest, one)
 
-pub may_close : (z : Sizes) (u opened began : View) (ps qs : List Place) → IsOpened z u opened ps qs → StillTries opened began → (j : Job) (t : Attempt) (r : Room) (v : View) (o : Outcome) (left : ℕ)
-    → HasOutcome z began j t r o left v → length (gone_by o r.change) ≤ 3 → MayClose z r.row.key.items r.row.value v qs (links_of (gone_by o r.change)) r.stock
-may_close z u opened began ps qs frame base j t r v o left h few =
-    let end = left_since z opened began base j r o v (left_by z began r v j t o left h) in
+pub may_close : (z : Sizes) (u opened began : View) (ps qs : List Place) → IsOpened z u opened ps qs → StillTries opened began → (j : Job) (t : Position) (c : Case) (r : Room) (v : View) (o : Outcome) (left : ℕ)
+    → OutcomeBy z began j t c r o left v → length (gone_by o r.change) ≤ 3 → MayClose z r.row.key.items r.row.value v qs (links_of (gone_by o r.change)) r.stock
+may_close z u opened began ps qs frame base j t c r v o left h few =
+    let end = left_since z opened began base j r o v (left_by z began r v j t c o left h) in
     record {
       free = end.free;
       stock = end.has;
@@ -115,9 +142,9 @@ may_close z u opened began ps qs frame base j t r v o left h few =
 
 -- ---- how the write ends by how an attempt did
 
-module _ (z : Sizes) (u : View) (t : Attempt) (r : Room) (left : ℕ) (v : View) where
+module _ (z : Sizes) (u : View) (j : Job) (t : Position) (c : Case) (r : Room) (left : ℕ) (v : View) where
   abbrev Ends : Outcome → Type 0
-  Ends o = OutcomeBy z u t.job t.position t.case r o left v
+  Ends o = OutcomeBy z u j t c r o left v
 
   or_busy_ends : (o : Outcome) → EndsSo z u r v → Ends o → Ends (or_busy left o)
   or_busy_ends o so ends = ⊎_elim
@@ -125,27 +152,24 @@ module _ (z : Sizes) (u : View) (t : Attempt) (r : Room) (left : ℕ) (v : View)
       (λ (e : (left == 0) ≡ false). rw e ends)
       (cases_Bool (left == 0))
 
-  ends_by : (e : Ending) (o : Outcome) → EndFits z u t r e v → outcome_of left e ≡ Some o → Ends o
-  ends_by ending.New o fits is = subst Ends (same_Some {A = Outcome} New o is) fits
-  ends_by (ending.Present stands) o fits is = subst Ends (same_Some {A = Outcome} (Present stands) o is) fits
-  ends_by (ending.Gone value) o fits is = subst Ends (same_Some {A = Outcome} (Gone value) o is) fits
-  ends_by ending.Absent o fits is = subst Ends (same_Some {A = Outcome} Absent o is) fits
-  ends_by (ending.Full pool) o fits is = subst Ends (same_Some {A = Outcome} (or_busy left (Full pool)) o is) (or_busy_ends (Full pool) fits.1 fits)
-  ends_by (ending.Exhausted c) o fits is = subst Ends (same_Some {A = Outcome} (Exhausted c) o is) fits
-  ends_by ending.Overlaps o fits is = subst Ends (same_Some {A = Outcome} (or_busy left Overlaps) o is) (or_busy_ends Overlaps fits.1 fits)
-  ends_by ending.Restart o fits is = cc
-
-  pub outcome_ends : (j : Job) → t.job ≡ j → (e : Ending) (o : Outcome) → EndFits z u t r e v → outcome_of left e ≡ Some o → HasOutcome z u j t r o left v
-  outcome_ends j job e o fits is = record { job = job; fits = ends_by e o fits is }
+  pub outcome_ends : (e : Ending) (o : Outcome) → EndsBy z u j t c r e v → outcome_of left e ≡ Some o → Ends o
+  outcome_ends ending.New o fits is = subst Ends (same_Some {A = Outcome} New o is) fits
+  outcome_ends (ending.Present stands) o fits is = subst Ends (same_Some {A = Outcome} (Present stands) o is) fits
+  outcome_ends (ending.Gone value) o fits is = subst Ends (same_Some {A = Outcome} (Gone value) o is) fits
+  outcome_ends ending.Absent o fits is = subst Ends (same_Some {A = Outcome} Absent o is) fits
+  outcome_ends (ending.Full pool) o fits is = subst Ends (same_Some {A = Outcome} (or_busy left (Full pool)) o is) (or_busy_ends (Full pool) fits.1 fits)
+  outcome_ends (ending.Exhausted x) o fits is = subst Ends (same_Some {A = Outcome} (Exhausted x) o is) fits
+  outcome_ends ending.Overlaps o fits is = subst Ends (same_Some {A = Outcome} (or_busy left Overlaps) o is) (or_busy_ends Overlaps fits.1 fits)
+  outcome_ends ending.Restart o fits is = cc
 
   -- it is tried anew
-  pub anew_ends : (e : Ending) → EndFits z u t r e v → outcome_of left e ≡ None → EndsSo z u r v × (u.failures < v.failures)
+  pub anew_ends : (e : Ending) → EndsBy z u j t c r e v → outcome_of left e ≡ None → EndsSo z u r v × (u.failures < v.failures)
   anew_ends ending.New fits is = cc
   anew_ends (ending.Present stands) fits is = cc
   anew_ends (ending.Gone value) fits is = cc
   anew_ends ending.Absent fits is = cc
   anew_ends (ending.Full pool) fits is = cc
-  anew_ends (ending.Exhausted c) fits is = cc
+  anew_ends (ending.Exhausted x) fits is = cc
   anew_ends ending.Overlaps fits is = cc
   anew_ends ending.Restart fits is = fits
 
@@ -172,17 +196,23 @@ begins_going [] = refl
 begins_going (word ∷ words) = refl
 
 -- an outcome that an attempt had is not that limbo was crowded
-pub done_by : (z : Sizes) (u opened v : View) (ps : List Place) (j : Job) (t : Attempt) (r : Room) (o : Outcome) (left : ℕ) (m : Write) (s : Room) (qs : List Place) (w : View) → HasOutcome z opened j t r o left v
-    → IsExiting z u ps m s qs w × (is_ended m.exit ≡ true) → IsDone z u ps o m s qs w
-done_by z u opened v ps j t r New left m s qs w h done = done
-done_by z u opened v ps j t r (Present stands) left m s qs w h done = done
-done_by z u opened v ps j t r (Gone value) left m s qs w h done = done
-done_by z u opened v ps j t r Absent left m s qs w h done = done
-done_by z u opened v ps j t r (Full pool) left m s qs w h done = done
-done_by z u opened v ps j t r (Exhausted c) left m s qs w h done = done
-done_by z u opened v ps j t r Overlaps left m s qs w h done = done
-done_by z u opened v ps j t r Busy left m s qs w h done = done
-done_by z u opened v ps j t r (Crowded b) left m s qs w h done = absurd h.fits
+pub done_by : (z : Sizes) (u opened v : View) (ps : List Place) (j : Job) (t : Position) (c : Case) (r : Room) (o : Outcome) (left : ℕ) (m : Write) (s : Room) (qs : List Place) (w : View)
+    → OutcomeBy z opened j t c r o left v → IsExiting z u ps m exit.Ended o s qs w → IsDone z u ps o m s qs w
+done_by z u opened v ps j t c r New left m s qs w h done = done
+done_by z u opened v ps j t c r (Present stands) left m s qs w h done = done
+done_by z u opened v ps j t c r (Gone value) left m s qs w h done = done
+done_by z u opened v ps j t c r Absent left m s qs w h done = done
+done_by z u opened v ps j t c r (Full pool) left m s qs w h done = done
+done_by z u opened v ps j t c r (Exhausted x) left m s qs w h done = done
+done_by z u opened v ps j t c r Overlaps left m s qs w h done = done
+done_by z u opened v ps j t c r Busy left m s qs w h done = done
+done_by z u opened v ps j t c r (Crowded b) left m s qs w h done = absurd h
+
+-- one that has ended
+pub ended_is : (x : Exit) → is_ended x ≡ true → x ≡ exit.Ended
+ended_is exit.Ended is = refl
+ended_is exit.Labelling is = cc
+ended_is exit.Giving is = cc
 
 -- ---- steps
 
@@ -200,8 +230,3 @@ anew_left left (ending.Full pool) is = cc
 anew_left left (ending.Exhausted c) is = cc
 anew_left left ending.Overlaps is = cc
 anew_left left ending.Restart is = refl
-
--- ---- an attempt at its beginning
-
-pub first_of : (j : Job) (t : Attempt) → t.job ≡ j → ended_at t ≡ None → is_free t ≡ true → ((z : Sizes) (u : View) (r : Room) → IsRoom z r → StillTries u u → HasHand z u r → Fits z u t r u) → IsFirst j t
-first_of j t job going free fits = record { job = job; going = going; few = λ left. free_few left t.stage free; fits = fits }

@@ -1,7 +1,7 @@
 -- A write that cannot be given up holds a cell, or has made its event; one that will refuse holds none, and has made none.
 use Rattle.std.proofs.Common.{◌≡◌, ◌≢◌, ◌++◌, ℕ, zero, suc, ◌+◌, ◌<◌, ◌==◌, Bool, false, true, List, [], ◌∷◌, length, Option, Some, None, inl, inr, refl, sym, ap, ◌∙◌, subst, arith}
 use Rattle.std.proofs.lemmas.List.{length-append}
-use Rattle.std.proofs.lemmas.Option.{slice_get-get_or}
+use Rattle.std.proofs.lemmas.Option.{same_Some, slice_get-get_or}
 use Rattle.std.specs.Prelude.{get_or}
 use Rattle.arrayvec.specs.ArrayVec.{ArrayVec}
 use Rattle.art_attempt.specs.Attempts.{Fits as TryFits, StageFits as AttemptFits, ended_at as try_ended, ending_at, free_at, is_free}
@@ -11,7 +11,7 @@ use Rattle.art_cell.specs.declared.cells.Cell.TheVariants as cell
 use Rattle.art_cell.specs.declared.cells.Link.{Link}
 use Rattle.art_cell.specs.declared.cells.Node.{Node}
 use Rattle.art_change.proofs.Answered.{left_opened, sees_all}
-use Rattle.art_change.specs.Writes.{Fits, HasOutcome, HoldsOrTold, OutcomeBy, IsExiting, IsDone, StageFits, WillRefuse, gone_by, is_refusal, refuses_at, told_by}
+use Rattle.art_change.specs.Writes.{Fits, HoldsOrTold, OutcomeBy, IsExiting, IsDone, StageFits, WillRefuse, gone_by, is_refusal, outcome_in, refuses_at, told_by}
 use Rattle.art_attempt.specs.declared.attempts.Job.{Job}
 use Rattle.art_attempt.specs.declared.attempts.Stage.{Stage as AttemptStage}
 use Rattle.art_attempt.specs.declared.attempts.Stage.TheVariants as attempt
@@ -136,39 +136,34 @@ told_of z u j t c r Overlaps left v k value fits untold = cc
 told_of z u j t c r Busy left v k value fits untold = cc
 told_of z u j t c r (Crowded b) left v k value fits untold = cc
 
-is_told : (z : Sizes) (u : View) (j : Job) (t : Attempt) (r : Room) (o : Outcome) (left : ℕ) (v : View) (k : ArrayVec ℕ) (value : ℕ) → HasOutcome z u j t r o left v
-    → is_refusal o ≡ false → (what : Deed) × (told_by o j k value ≡ Some what)
-is_told z u j t r o left v k value h untold =
-    told_of z u j t.position t.case r o left v k value (subst (λ (i : Job). OutcomeBy z u i t.position t.case r o left v) h.job h.fits) untold
-
 module _ (z : Sizes) (u : View) (ps : List Place) (m : Write) (r : Room) (qs : List Place) (v : View) where
-  exit_told : IsExiting z u ps m r qs v → is_refusal m.outcome ≡ false → HoldsOrTold u v
-  exit_told k untold =
-      let same = close_tells z r.row.key.items r.row.value k.ended v k.waiting qs (links_of (gone_by m.outcome r.change)) r.stock m.exit k.fits in
-      let told = is_told z k.began m.job m.attempt (record r { stock = k.stock }) m.outcome m.left k.ended r.row.key r.row.value k.outcome untold in
+  exit_told : (x : Exit) (o : Outcome) → IsExiting z u ps m x o r qs v → is_refusal o ≡ false → HoldsOrTold u v
+  exit_told x o k untold =
+      let same = close_tells z r.row.key.items r.row.value k.ended v k.waiting qs (links_of (gone_by o r.change)) r.stock x k.fits in
+      let told = told_of z k.began m.job k.position k.case (record r { stock = k.stock }) o m.left k.ended r.row.key r.row.value k.outcome untold in
       let sees = sees_all u k.opened k.ended v (ap (λ (t : View). t.seen) k.frame.frame.is) (ap (λ (t : View). t.own) k.frame.frame.is) (ap (λ (t : View). t.pass) k.frame.frame.is)
-      same.0 same.1 (told_by m.outcome m.job r.row.key r.row.value) (left_opened z u ps m r qs v k).tells in
+      same.0 same.1 (told_by o m.job r.row.key r.row.value) (left_opened z u ps m r qs v x o k).tells in
       inr (told.0, subst (SeesEvent u v) told.1 sees)
 
-  done_told : (o : Outcome) → m.outcome ≡ o → IsDone z u ps o m r qs v → is_refusal o ≡ false → HoldsOrTold u v
-  done_told New is done untold = exit_told done.0 (ap is_refusal is ∙ untold)
-  done_told (Present stands) is done untold = exit_told done.0 (ap is_refusal is ∙ untold)
-  done_told (Gone had) is done untold = exit_told done.0 (ap is_refusal is ∙ untold)
-  done_told Absent is done untold = exit_told done.0 (ap is_refusal is ∙ untold)
-  done_told (Full pool) is done untold = cc
-  done_told (Exhausted c) is done untold = cc
-  done_told Overlaps is done untold = cc
-  done_told Busy is done untold = cc
-  done_told (Crowded b) is done untold = cc
+  done_told : (o : Outcome) → IsDone z u ps o m r qs v → is_refusal o ≡ false → HoldsOrTold u v
+  done_told New done untold = exit_told exit.Ended New done untold
+  done_told (Present stands) done untold = exit_told exit.Ended (Present stands) done untold
+  done_told (Gone had) done untold = exit_told exit.Ended (Gone had) done untold
+  done_told Absent done untold = exit_told exit.Ended Absent done untold
+  done_told (Full pool) done untold = cc
+  done_told (Exhausted c) done untold = cc
+  done_told Overlaps done untold = cc
+  done_told Busy done untold = cc
+  done_told (Crowded b) done untold = cc
 
-  pub told_at_close : StageFits z u ps stages.Exit m r qs v → is_refusal m.outcome ≡ false → HoldsOrTold u v
-  told_at_close fits untold = exit_told fits.0 untold
+  pub told_in_stage : (s : Stage) (o : Outcome) → outcome_in s ≡ Some o → StageFits z u ps s m r qs v → is_refusal o ≡ false → HoldsOrTold u v
+  told_in_stage (stages.Exit x a) o is fits untold = exit_told x a fits.0 (ap is_refusal (same_Some {A = Outcome} a o is) ∙ untold)
+  told_in_stage (stages.Ended a) o is fits untold = done_told a fits (ap is_refusal (same_Some {A = Outcome} a o is) ∙ untold)
+  told_in_stage (stages.Enter e) o is fits untold = cc
+  told_in_stage (stages.Trying t) o is fits untold = cc
 
-  pub told_at_end : StageFits z u ps stages.Ended m r qs v → is_refusal m.outcome ≡ false → HoldsOrTold u v
-  told_at_end fits untold = done_told m.outcome refl fits untold
-
-  pub held_in_try : StageFits z u ps stages.Trying m r qs v → is_free m.attempt ≡ false → HoldsOrTold u v
-  held_in_try fits untold = inl (held_in z fits.0.began m.attempt r v fits.0.fits fits.0.going untold)
+  pub held_in_try : (t : Attempt) → StageFits z u ps (stages.Trying t) m r qs v → is_free t ≡ false → HoldsOrTold u v
+  held_in_try t fits untold = inl (held_in z fits.0.began t r v fits.0.fits fits.0.going untold)
 
 -- ---- what will refuse is free, and has told nothing
 
@@ -197,34 +192,34 @@ module _ (z : Sizes) (k : List ℕ) (value : ℕ) (u v : View) (ps qs : List Pla
   close_frees exit.Ended fits = fits.0.free
 
 module _ (z : Sizes) (u : View) (ps : List Place) (m : Write) (r : Room) (qs : List Place) (v : View) where
-  exit_free : IsExiting z u ps m r qs v → is_refusal m.outcome ≡ true → HoldsOrTold u v → ⊥
-  exit_free k refuses =
+  exit_free : (x : Exit) (o : Outcome) → IsExiting z u ps m x o r qs v → is_refusal o ≡ true → HoldsOrTold u v → ⊥
+  exit_free x o k refuses =
       let bytes = r.row.key.items in
-      let same = close_tells z bytes r.row.value k.ended v k.waiting qs (links_of (gone_by m.outcome r.change)) r.stock m.exit k.fits in
-      let free = close_frees z bytes r.row.value k.ended v k.waiting qs (links_of (gone_by m.outcome r.change)) r.stock m.exit k.fits in
+      let same = close_tells z bytes r.row.value k.ended v k.waiting qs (links_of (gone_by o r.change)) r.stock x k.fits in
+      let free = close_frees z bytes r.row.value k.ended v k.waiting qs (links_of (gone_by o r.change)) r.stock x k.fits in
       let sees = sees_all u k.opened k.ended v (ap (λ (t : View). t.seen) k.frame.frame.is) (ap (λ (t : View). t.own) k.frame.frame.is) (ap (λ (t : View). t.pass) k.frame.frame.is)
-      same.0 same.1 (told_by m.outcome m.job r.row.key r.row.value) (left_opened z u ps m r qs v k).tells in
-      let none = subst (SeesEvent u v) (refusal_tells m.outcome m.job r.row.key r.row.value refuses) sees in
+      same.0 same.1 (told_by o m.job r.row.key r.row.value) (left_opened z u ps m r qs v x o k).tells in
+      let none = subst (SeesEvent u v) (refusal_tells o m.job r.row.key r.row.value refuses) sees in
       free_untold u v free none.1
 
-  done_free : (o : Outcome) → m.outcome ≡ o → IsDone z u ps o m r qs v → is_refusal o ≡ true → HoldsOrTold u v → ⊥
-  done_free New is done refuses = cc
-  done_free (Present stands) is done refuses = cc
-  done_free (Gone had) is done refuses = cc
-  done_free Absent is done refuses = cc
-  done_free (Full pool) is done refuses = exit_free done.0 (ap is_refusal is)
-  done_free (Exhausted c) is done refuses = exit_free done.0 (ap is_refusal is)
-  done_free Overlaps is done refuses = exit_free done.0 (ap is_refusal is)
-  done_free Busy is done refuses = exit_free done.0 (ap is_refusal is)
-  done_free (Crowded b) is done refuses = free_untold u v (ap (λ (t : View). t.held) done.0.only ∙ done.1) (ap (λ (t : View). t.own) done.0.only)
+  done_free : (o : Outcome) → IsDone z u ps o m r qs v → is_refusal o ≡ true → HoldsOrTold u v → ⊥
+  done_free New done refuses = cc
+  done_free (Present stands) done refuses = cc
+  done_free (Gone had) done refuses = cc
+  done_free Absent done refuses = cc
+  done_free (Full pool) done refuses = exit_free exit.Ended (Full pool) done refuses
+  done_free (Exhausted c) done refuses = exit_free exit.Ended (Exhausted c) done refuses
+  done_free Overlaps done refuses = exit_free exit.Ended Overlaps done refuses
+  done_free Busy done refuses = exit_free exit.Ended Busy done refuses
+  done_free (Crowded b) done refuses = free_untold u v (ap (λ (t : View). t.held) done.0.only ∙ done.1) (ap (λ (t : View). t.own) done.0.only)
 
-  refused_free : (s : Stage) → refuses_at s m → StageFits z u ps s m r qs v → HoldsOrTold u v → ⊥
-  refused_free stages.Enter refuses fits =
-      let same = enter_same z u v ps qs m.enter fits.enter fits.going in
+  refused_free : (s : Stage) → refuses_at s m.left → StageFits z u ps s m r qs v → HoldsOrTold u v → ⊥
+  refused_free (stages.Enter e) refuses fits =
+      let same = enter_same z u v ps qs e fits.enter fits.going in
       free_untold u v (same.0 ∙ fits.free) same.1
-  refused_free stages.Trying refuses fits = absurd refuses
-  refused_free stages.Exit refuses fits = exit_free fits.0 refuses
-  refused_free stages.Ended refuses fits = done_free m.outcome refl fits refuses
+  refused_free (stages.Trying t) refuses fits = absurd refuses
+  refused_free (stages.Exit x o) refuses fits = exit_free x o fits.0 refuses
+  refused_free (stages.Ended o) refuses fits = done_free o fits refuses
 
   pub refusing_is_free : WillRefuse m → Fits z u ps m r qs v → HoldsOrTold u v → ⊥
   refusing_is_free refuses fits = refused_free m.stage refuses fits.stage

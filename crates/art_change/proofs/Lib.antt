@@ -13,4 +13,5 @@ pub mod Newcomers
 pub mod Overlaps
 pub mod Ready
 mod SameWrite
+pub mod Staged
 mod Steps

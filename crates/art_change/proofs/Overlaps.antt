@@ -4,10 +4,10 @@ use Rattle.std.specs.Prelude.{Err, Ok}
 use Rattle.std.proofs.lemmas.Bool.{cond_both}
 use Rattle.std.proofs.lemmas.Option.{same_Some}
 use Rattle.art_attempt.proofs.Overlaps as attempts
-use Rattle.art_attempt.specs.Asking.{Answers}
+use Rattle.art_attempt.specs.Asking.{Answers as TryAnswers}
 use Rattle.art_attempt.specs.Attempts.{Fits as TryFits, IsOverlapBy, asks as try_asks, deed_at as try_deed}
 use Rattle.art_attempt.specs.declared.rooms.Room.{Room}
-use Rattle.art_change.specs.Writes.{FindsOverlap, Fits, NoneOverlaps, StageFits, asks, asks_at, deed_at, or_busy, outcome_of}
+use Rattle.art_change.specs.Writes.{Answers, FindsOverlap, Fits, NoneOverlaps, StageFits, asks, asks_at, brings_at, or_busy, outcome_of, overlaps_by}
 use Rattle.art_attempt.specs.declared.attempts.Ending.{Ending}
 use Rattle.art_attempt.specs.declared.attempts.Ending.TheVariants as ending
 use Rattle.art_attempt.specs.declared.attempts.Attempt.{Attempt}
@@ -17,6 +17,7 @@ use Rattle.art_change.specs.declared.writes.Stage.{Stage}
 use Rattle.art_change.specs.declared.writes.Stage.TheVariants as stage
 use Rattle.art_change.specs.declared.writes.Write.{Write}
 use Rattle.art_epoch.specs.declared.limbo.Place.{Place}
+use Rattle.art_machine.specs.Acting as acting
 use Rattle.art_machine.specs.Acting.{PassesAmong, passed}
 use Rattle.art_machine.specs.declared.actions.Action.{Action}
 use Rattle.art_machine.specs.declared.actions.Action.TheVariants.{Check}
@@ -52,11 +53,16 @@ pub still_apart : (A B : List ℕ → Type 0) → ((k : List ℕ) → B k → A 
 still_apart A B back apart = λ k j a b begins. apart k j (back k a) (back j b) begins
 
 module _ (A : List ℕ → Type 0) (apart : AreApart A) (z : Sizes) (v : View) where
+  never_at : (u : View) (ps : List Place) (m : Write) (r : Room) (qs : List Place) (a : Action) (answer : Answer) (s : Stage) → StageFits z u ps s m r qs v → A r.row.key.items → asks_at s r qs ≡ Some a
+      → PassesAmong A z v a answer → overlaps_by s answer → ⊥
+  never_at u ps m r qs a answer (stage.Trying t) fits is at among o = attempts.never_overlaps A z v apart fits.0.began t r fits.0.fits is a answer at among o
+  never_at u ps m r qs a answer (stage.Enter e) fits is at among o = absurd o
+  never_at u ps m r qs a answer (stage.Exit x b) fits is at among o = absurd o
+  never_at u ps m r qs a answer (stage.Ended b) fits is at among o = absurd o
+
   pub never_overlaps : (u : View) (ps : List Place) (m : Write) (r : Room) (qs : List Place) (a : Action) (answer : Answer) → Fits z u ps m r qs v → A r.row.key.items → asks m r qs ≡ Some a
-      → PassesAmong A z v a answer → (m.stage ≡ stage.Trying) × IsOverlapBy m.attempt answer → ⊥
-  never_overlaps u ps m r qs a answer fits is at among o =
-      let t = subst (λ (s : Stage). StageFits z u ps s m r qs v) o.0 fits.stage in
-      attempts.never_overlaps A z v apart t.0.began m.attempt r t.0.fits is a answer (sym (ap (λ (s : Stage). asks_at s m r qs) o.0) ∙ at) among o.1
+      → PassesAmong A z v a answer → overlaps_by m.stage answer → ⊥
+  never_overlaps u ps m r qs a answer fits = never_at u ps m r qs a answer m.stage fits.stage
 
 -- ---- the check that an overlap comes by
 
@@ -69,7 +75,7 @@ pub none_overlaps : (A : List ℕ → Type 0) (z : Sizes) (k : List ℕ) (v w : 
 none_overlaps A z k v w same = inr (λ o. let count = overlap_counts z k v w o in let still = ap (λ (x : View). x.steps) same in absurd (omega (arith, count, still)))
 
 module _ (z : Sizes) (v w : View) where
-  checked_so : (d : Deed) (c : ChangeOf) (x : Stamp) (answer : Answer) → Answers z d c (Check x) answer v w → passed answer ≡ true → check.Unchanged z v w x None
+  checked_so : (d : Deed) (c : ChangeOf) (x : Stamp) (answer : Answer) → TryAnswers z d c (Check x) answer v w → passed answer ≡ true → check.Unchanged z v w x None
   checked_so d c x (Checked (Ok done)) row is = row
   checked_so d c x (Checked (Err e)) row is = cc
   checked_so d c x (Begun r) row is = cc
@@ -77,18 +83,23 @@ module _ (z : Sizes) (v w : View) where
   checked_so d c x (Upgraded r) row is = cc
   checked_so d c x Done row is = cc
 
-  try_finds : (u : View) (m : Attempt) (r : Room) (a : Action) (answer : Answer) → TryFits z u m r v → try_asks m r ≡ Some a → Answers z (try_deed m r) r.change a answer v w → IsOverlapBy m answer
+  try_finds : (u : View) (m : Attempt) (r : Room) (a : Action) (answer : Answer) → TryFits z u m r v → try_asks m r ≡ Some a → TryAnswers z (try_deed m r) r.change a answer v w → IsOverlapBy m answer
       → FindsOverlap z r.row.key.items v w
   try_finds u m r a answer fits at row o =
       let c = attempts.overlap_checked z u v m r a answer fits at o in
       record {
         stamp = c.0;
         shows = c.2;
-        checked = checked_so (try_deed m r) r.change c.0 answer (subst (λ (x : Action). Answers z (try_deed m r) r.change x answer v w) c.1 row) o.succeeded;
+        checked = checked_so (try_deed m r) r.change c.0 answer (subst (λ (x : Action). TryAnswers z (try_deed m r) r.change x answer v w) c.1 row) o.succeeded;
       }
 
-  pub finds_overlap : (u : View) (ps : List Place) (m : Write) (r : Room) (qs : List Place) (a : Action) (answer : Answer) → Fits z u ps m r qs v → asks m r qs ≡ Some a → Answers z (deed_at m r) r.change a answer v w
-      → (m.stage ≡ stage.Trying) × IsOverlapBy m.attempt answer → FindsOverlap z r.row.key.items v w
-  finds_overlap u ps m r qs a answer fits at row o =
-      let t = subst (λ (s : Stage). StageFits z u ps s m r qs v) o.0 fits.stage in
-      try_finds t.0.began m.attempt r a answer t.0.fits (sym (ap (λ (s : Stage). asks_at s m r qs) o.0) ∙ at) row o.1
+  finds_at : (u : View) (ps : List Place) (m : Write) (r : Room) (qs : List Place) (a : Action) (answer : Answer) (s : Stage) → StageFits z u ps s m r qs v → asks_at s r qs ≡ Some a
+      → acting.Answers z (brings_at s r a) a answer v w → overlaps_by s answer → FindsOverlap z r.row.key.items v w
+  finds_at u ps m r qs a answer (stage.Trying t) fits at row o = try_finds fits.0.began t r a answer fits.0.fits at row o
+  finds_at u ps m r qs a answer (stage.Enter e) fits at row o = absurd o
+  finds_at u ps m r qs a answer (stage.Exit x b) fits at row o = absurd o
+  finds_at u ps m r qs a answer (stage.Ended b) fits at row o = absurd o
+
+  pub finds_overlap : (u : View) (ps : List Place) (m : Write) (r : Room) (qs : List Place) (a : Action) (answer : Answer) → Fits z u ps m r qs v → asks m r qs ≡ Some a → Answers z m r a answer v w
+      → overlaps_by m.stage answer → FindsOverlap z r.row.key.items v w
+  finds_overlap u ps m r qs a answer fits = finds_at u ps m r qs a answer m.stage fits.stage

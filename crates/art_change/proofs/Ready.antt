@@ -5,7 +5,7 @@ use Rattle.art_cell.specs.declared.cells.Link.{Link}
 use Rattle.art_cell.specs.declared.cells.Link.TheVariants.{Leaf as leaf, Node as node}
 use Rattle.art_change.proofs.Answered.{answered, left_opened}
 use Rattle.art_attempt.specs.Attempts.{IsRoom}
-use Rattle.art_change.specs.Writes.{Fits, IsExiting, IsDone, IsReady, MayWrite, StageFits, ended_at, gone_by, outcome_at}
+use Rattle.art_change.specs.Writes.{Fits, IsExiting, IsDone, IsReady, MayWrite, StageFits, ended_at, outcome_at}
 use Rattle.art_change.specs.declared.writes.Write.{Write}
 use Rattle.art_change.specs.declared.writes.Outcome.{Outcome}
 use Rattle.art_change.specs.declared.writes.Outcome.TheVariants.{New, Present, Gone, Absent, Full, Exhausted, Overlaps, Busy, Crowded}
@@ -13,12 +13,9 @@ use Rattle.art_change.specs.declared.writes.Stage.{Stage}
 use Rattle.art_change.specs.declared.writes.Stage.TheVariants as stage
 use Rattle.art_epoch.specs.declared.limbo.Place.{Place}
 use Rattle.art_epoch.proofs.Stocked.{first_is_in, none_is_in}
-use Rattle.art_epoch.specs.Exit.{ExitFits, IsClosed, is_ended}
 use Rattle.art_epoch.specs.Stocks.{HasStock, first_in}
-use Rattle.art_epoch.specs.declared.exit.Exit.{Exit}
 use Rattle.art_epoch.specs.declared.exit.Exit.TheVariants as exit
 use Rattle.art_epoch.specs.declared.stocks.Stock.{Stock}
-use Rattle.art_step.specs.Tokens.{links_of}
 use Rattle.art_step.specs.Views.{Member}
 use Rattle.art_step.specs.declared.views.Sizes.{Sizes}
 use Rattle.art_step.specs.declared.views.View.{View}
@@ -52,16 +49,10 @@ ready_may z u own ps r ready room = record {
 
 -- ---- after it
 
-closed_stock : (z : Sizes) (k : List ℕ) (value : ℕ) (u v : View) (ps qs : List Place) (m : Write) (r : Room) (c : Exit) → is_ended c ≡ true
-    → ExitFits z k value u ps (links_of (gone_by m.outcome r.change)) c qs r.stock v → IsClosed z u v ps qs (links_of (gone_by m.outcome r.change)) × (first_in r.stock ≡ None)
-closed_stock z k value u v ps qs m r exit.Ended is fits = (fits.0, fits.1)
-closed_stock z k value u v ps qs m r exit.Labelling is fits = cc
-closed_stock z k value u v ps qs m r exit.Giving is fits = cc
-
 module _ (z : Sizes) (u : View) (own : ℕ) (s : Stock) (ps : List Place) (m : Write) (r : Room) (qs : List Place) (v : View) (ready : IsReady z u own ps s) where
-  after : IsDone z u ps m.outcome m r qs v → v.pass ≡ u.pass → v.hand ≡ [] → first_in r.stock ≡ None → IsReady z v own qs r.stock
-  after done pass hand stock =
-      let a = answered z u ps m r qs v m.outcome refl done in
+  after : (o : Outcome) → IsDone z u ps o m r qs v → v.pass ≡ u.pass → v.hand ≡ [] → first_in r.stock ≡ None → IsReady z v own qs r.stock
+  after o done pass hand stock =
+      let a = answered z u ps m r qs v o done in
       record {
         frame = record {
           own_is = ready.frame.own_is ∙ sym pass;
@@ -74,30 +65,30 @@ module _ (z : Sizes) (u : View) (own : ℕ) (s : Stock) (ps : List Place) (m : W
         stock = stock;
       }
 
-  exit_ready : IsDone z u ps m.outcome m r qs v → IsExiting z u ps m r qs v → is_ended m.exit ≡ true → IsReady z v own qs r.stock
-  exit_ready done k is =
-      let closed = closed_stock z r.row.key.items r.row.value k.ended v k.waiting qs m r m.exit is k.fits in
-      let pass = (left_opened z u ps m r qs v k).pass in
-      after done (ap (λ (t : View). t.pass) closed.0.is ∙ (pass ∙ ap (λ (t : View). t.pass) k.frame.frame.is)) (ap (λ (t : View). t.hand) closed.0.is) closed.1
+  exit_ready : (o : Outcome) → IsDone z u ps o m r qs v → IsExiting z u ps m exit.Ended o r qs v → IsReady z v own qs r.stock
+  exit_ready o done k =
+      let closed = k.fits in
+      let pass = (left_opened z u ps m r qs v exit.Ended o k).pass in
+      after o done (ap (λ (t : View). t.pass) closed.0.is ∙ (pass ∙ ap (λ (t : View). t.pass) k.frame.frame.is)) (ap (λ (t : View). t.hand) closed.0.is) closed.1
 
-  done_ready : (o : Outcome) → m.outcome ≡ o → IsDone z u ps o m r qs v → IsReady z v own qs r.stock
-  done_ready (Crowded b) is done =
-      after (subst (λ (o : Outcome). IsDone z u ps o m r qs v) (sym is) done) (ap (λ (t : View). t.pass) done.0.only) (ap (λ (t : View). t.hand) done.0.only ∙ ready.hand)
+  done_ready : (o : Outcome) → IsDone z u ps o m r qs v → IsReady z v own qs r.stock
+  done_ready (Crowded b) done =
+      after (Crowded b) done (ap (λ (t : View). t.pass) done.0.only) (ap (λ (t : View). t.hand) done.0.only ∙ ready.hand)
       (empty_has z r.row.key.items r.row.value u r.stock done.2 ready.hand)
-  done_ready New is done = exit_ready (subst (λ (o : Outcome). IsDone z u ps o m r qs v) (sym is) done) done.0 done.1
-  done_ready (Present stands) is done = exit_ready (subst (λ (o : Outcome). IsDone z u ps o m r qs v) (sym is) done) done.0 done.1
-  done_ready (Gone value) is done = exit_ready (subst (λ (o : Outcome). IsDone z u ps o m r qs v) (sym is) done) done.0 done.1
-  done_ready Absent is done = exit_ready (subst (λ (o : Outcome). IsDone z u ps o m r qs v) (sym is) done) done.0 done.1
-  done_ready (Full pool) is done = exit_ready (subst (λ (o : Outcome). IsDone z u ps o m r qs v) (sym is) done) done.0 done.1
-  done_ready (Exhausted c) is done = exit_ready (subst (λ (o : Outcome). IsDone z u ps o m r qs v) (sym is) done) done.0 done.1
-  done_ready Overlaps is done = exit_ready (subst (λ (o : Outcome). IsDone z u ps o m r qs v) (sym is) done) done.0 done.1
-  done_ready Busy is done = exit_ready (subst (λ (o : Outcome). IsDone z u ps o m r qs v) (sym is) done) done.0 done.1
+  done_ready New done = exit_ready New done done
+  done_ready (Present stands) done = exit_ready (Present stands) done done
+  done_ready (Gone value) done = exit_ready (Gone value) done done
+  done_ready Absent done = exit_ready Absent done done
+  done_ready (Full pool) done = exit_ready (Full pool) done done
+  done_ready (Exhausted c) done = exit_ready (Exhausted c) done done
+  done_ready Overlaps done = exit_ready Overlaps done done
+  done_ready Busy done = exit_ready Busy done done
 
-  by_stage : (s : Stage) (o : Outcome) → outcome_at s m.outcome ≡ Some o → StageFits z u ps s m r qs v → IsReady z v own qs r.stock
-  by_stage stage.Enter o is fits = cc
-  by_stage stage.Trying o is fits = cc
-  by_stage stage.Exit o is fits = cc
-  by_stage stage.Ended o is fits = done_ready m.outcome refl fits
+  by_stage : (s : Stage) (o : Outcome) → outcome_at s ≡ Some o → StageFits z u ps s m r qs v → IsReady z v own qs r.stock
+  by_stage (stage.Enter e) o is fits = cc
+  by_stage (stage.Trying t) o is fits = cc
+  by_stage (stage.Exit x a) o is fits = cc
+  by_stage (stage.Ended a) o is fits = done_ready a fits
 
   pub ready_again : (o : Outcome) → ended_at m ≡ Some o → Fits z u ps m r qs v → IsReady z v own qs r.stock
   ready_again o is fits = by_stage m.stage o is fits.stage

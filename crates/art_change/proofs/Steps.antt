@@ -1,58 +1,53 @@
--- Each step of a write is as many as its answer says; what it commits is what its attempt is of.
-use Rattle.std.proofs.Common.{◌≡◌, ◌≢◌, ◌+◌, ◌≤◌, List, Bool, Some, refl, arith}
-use Rattle.art_cell.specs.declared.cells.Cell.{Cell}
-use Rattle.art_attempt.proofs.Counts.{attempt_steps, makes_deed}
-use Rattle.art_change.proofs.FrameSteps.{IsFrame, exit_frame, frame_one, frame_plain, enter_frame}
-use Rattle.art_attempt.specs.Cases.{made_by}
-use Rattle.art_change.specs.Writes.{Fits, StageFits, asks, asks_at, deed_at}
+-- Each step of a write is as many as its answer says; those of its frame bring nothing about.
+use Rattle.std.proofs.Common.{◌≡◌, ◌≢◌, ◌+◌, ◌≤◌, List, Some, None, refl, arith}
+use Rattle.art_attempt.proofs.Counts.{attempt_steps}
+use Rattle.art_attempt.specs.declared.attempts.Attempt.{Attempt}
+use Rattle.art_attempt.specs.declared.rooms.Room.{Room}
+use Rattle.art_change.proofs.FrameSteps.{IsFrame, exit_frame, frame_one, enter_frame}
+use Rattle.art_change.specs.Writes.{Answers, Fits, StageFits, asks, asks_at, brings_at, overlaps_by}
 use Rattle.art_change.specs.declared.writes.Stage.{Stage}
 use Rattle.art_change.specs.declared.writes.Stage.TheVariants as stage
 use Rattle.art_change.specs.declared.writes.Write.{Write}
 use Rattle.art_epoch.specs.declared.limbo.Place.{Place}
-use Rattle.art_attempt.proofs.Given.{plain_row}
-use Rattle.art_attempt.specs.Asking.{Answers}
-use Rattle.art_attempt.specs.declared.rooms.Room.{Room}
 use Rattle.art_machine.proofs.Counting.{steps_few}
+use Rattle.art_machine.specs.Acting as acting
 use Rattle.art_machine.specs.declared.actions.Action.{Action}
-use Rattle.art_machine.specs.declared.actions.Action.TheVariants.{Commit}
 use Rattle.art_machine.specs.declared.actions.Answer.{Answer}
 use Rattle.art_step.specs.declared.views.Sizes.{Sizes}
 use Rattle.art_step.specs.declared.views.View.{View}
 
 -- before and after its attempts it asks for steps of its frame
-module _ (m : Write) (r : Room) (qs : List Place) (a : Action) where
-  framed_at : (s : Stage) → s ≢ stage.Trying → asks_at s m r qs ≡ Some a → IsFrame a
-  framed_at stage.Enter not is = enter_frame m.enter qs a is
-  framed_at stage.Trying not is = absurd (not refl)
-  framed_at stage.Exit not is = exit_frame m.exit r.stock a is
-  framed_at stage.Ended not is = absurd (cc)
+module _ (r : Room) (a : Action) where
+  pub framed : (s : Stage) (qs : List Place) → ((t : Attempt) → s ≢ stage.Trying t) → asks_at s r qs ≡ Some a → IsFrame a
+  framed (stage.Enter e) qs not is = enter_frame e qs a is
+  framed (stage.Trying t) qs not is = absurd (not t refl)
+  framed (stage.Exit x o) qs not is = exit_frame x r.stock a is
+  framed (stage.Ended o) qs not is = absurd (cc)
 
-  pub framed : m.stage ≢ stage.Trying → asks m r qs ≡ Some a → IsFrame a
-  framed not is = framed_at m.stage not is
+  pub frame_brings : (s : Stage) → ((t : Attempt) → s ≢ stage.Trying t) → brings_at s r a ≡ None
+  frame_brings (stage.Enter e) not = refl
+  frame_brings (stage.Trying t) not = absurd (not t refl)
+  frame_brings (stage.Exit x o) not = refl
+  frame_brings (stage.Ended o) not = refl
 
-module _ (z : Sizes) (u : View) (ps : List Place) (m : Write) (r : Room) (qs : List Place) (v : View) where
-  module _ (w : View) (a : Action) (answer : Answer) (row : Answers z (deed_at m r) r.change a answer v w) where
-    frame_few : IsFrame a → w.steps ≤ v.steps + 1
-    frame_few is = let one = frame_one z a answer v w is (plain_row z (deed_at m r) r.change a answer v w (frame_plain a is) row) in omega (arith, one)
+pub frame_apart : (s : Stage) (answer : Answer) → ((t : Attempt) → s ≢ stage.Trying t) → overlaps_by s answer → ⊥
+frame_apart (stage.Enter e) answer not is = absurd is
+frame_apart (stage.Trying t) answer not is = not t refl
+frame_apart (stage.Exit x o) answer not is = absurd is
+frame_apart (stage.Ended o) answer not is = absurd is
 
-    few_at : (s : Stage) → StageFits z u ps s m r qs v → asks_at s m r qs ≡ Some a → w.steps ≤ v.steps + 1
-    few_at stage.Enter fits is = frame_few (enter_frame m.enter qs a is)
-    few_at stage.Trying fits is =
-        let made = attempt_steps z fits.0.began m.attempt r v w a answer row fits.0.fits is in
-        let few = steps_few answer in
-        omega (arith, made, few)
-    few_at stage.Exit fits is = frame_few (exit_frame m.exit r.stock a is)
-    few_at stage.Ended fits is = absurd (cc)
+module _ (z : Sizes) (u : View) (ps : List Place) (m : Write) (r : Room) (qs : List Place) (v w : View) (a : Action) (answer : Answer) where
+  frame_few : IsFrame a → acting.Answers z None a answer v w → w.steps ≤ v.steps + 1
+  frame_few is row = let one = frame_one z a answer v w is row in omega (arith, one)
 
-    pub write_few : Fits z u ps m r qs v → asks m r qs ≡ Some a → w.steps ≤ v.steps + 1
-    write_few fits is = few_at m.stage fits.stage is
+  few_at : (s : Stage) → acting.Answers z (brings_at s r a) a answer v w → StageFits z u ps s m r qs v → asks_at s r qs ≡ Some a → w.steps ≤ v.steps + 1
+  few_at (stage.Enter e) row fits is = frame_few (enter_frame e qs a is) row
+  few_at (stage.Trying t) row fits is =
+      let made = attempt_steps z fits.0.began t r v w a answer row fits.0.fits is in
+      let few = steps_few answer in
+      omega (arith, made, few)
+  few_at (stage.Exit x o) row fits is = frame_few (exit_frame x r.stock a is) row
+  few_at (stage.Ended o) row fits is = absurd (cc)
 
-  module _ (c : Cell) (b : Bool) where
-    makes_at : (s : Stage) → StageFits z u ps s m r qs v → asks_at s m r qs ≡ Some (Commit c b) → r.change.effects.deed ≡ made_by m.attempt.job r.row r.gone
-    makes_at stage.Enter fits is = absurd (enter_frame m.enter qs (Commit c b) is)
-    makes_at stage.Trying fits is = makes_deed z fits.0.began m.attempt r v c b fits.0.fits is
-    makes_at stage.Exit fits is = absurd (exit_frame m.exit r.stock (Commit c b) is)
-    makes_at stage.Ended fits is = absurd (cc)
-
-    pub write_made : Fits z u ps m r qs v → asks m r qs ≡ Some (Commit c b) → r.change.effects.deed ≡ made_by m.attempt.job r.row r.gone
-    write_made fits is = makes_at m.stage fits.stage is
+  pub write_few : Answers z m r a answer v w → Fits z u ps m r qs v → asks m r qs ≡ Some a → w.steps ≤ v.steps + 1
+  write_few row fits is = few_at m.stage row fits.stage is

@@ -2,6 +2,7 @@
 use Rattle.std.specs.Prelude.{◌≡◌, ◌≢◌, ◌⊎◌, ℕ, ◌+◌, ◌-◌, ◌*◌, ◌<◌, ◌≤◌, ◌==◌, Bool, true, false, List, [], length, Option, Some, None, if◌then◌else◌, ⊤}
 use Rattle.arrayvec.specs.ArrayVec.{ArrayVec}
 use Rattle.art_attempt.specs.Attempts as attempts
+use Rattle.art_attempt.specs.Asking as asking
 use Rattle.art_attempt.specs.Attempts.{EndsBy, EndsSo, GoesBy, HasHand, IsExhausted, IsFull, IsOverlap, IsRoom, absent, present, tries_left}
 use Rattle.art_attempt.specs.Trying.{IsLimited, StillTries}
 use Rattle.art_attempt.specs.declared.cases.Case.{Case}
@@ -24,6 +25,9 @@ use Rattle.art_epoch.specs.Exit as exits
 use Rattle.art_epoch.specs.Exit.{ExitFits}
 use Rattle.art_epoch.specs.Enter as enters
 use Rattle.art_epoch.specs.Enter.{IsCrowded, IsOpened, MayOpen, EnterFits}
+use Rattle.art_epoch.specs.declared.enter.Enter.{Enter}
+use Rattle.art_epoch.specs.declared.exit.Exit.{Exit}
+use Rattle.art_epoch.specs.declared.exit.Exit.TheVariants as exit
 use Rattle.art_epoch.specs.Stocks.{first_in, hinted_at}
 use Rattle.art_epoch.specs.declared.stocks.Stock.{Stock}
 use Rattle.art_plan.specs.Insert.Puts.{inserted}
@@ -32,7 +36,9 @@ use Rattle.art_find.specs.declared.findings.Position.{Position}
 use Rattle.art_find.specs.Verdicts.{HasOverlap}
 use Rattle.art_machine.specs.declared.actions.Action.{Action}
 use Rattle.art_machine.specs.declared.actions.Action.TheVariants.{Free}
+use Rattle.art_machine.specs.Acting as acting
 use Rattle.art_machine.specs.declared.actions.Answer.{Answer}
+use Rattle.art_machine.specs.declared.actions.Effects.{Effects}
 use Rattle.art_plan.specs.declared.changes.Change.{Change}
 use Rattle.art_plan.specs.Remove.Removals.{removed}
 use Rattle.art_plan.specs.declared.remove.leaves.OldLeaf.{OldLeaf}
@@ -48,27 +54,44 @@ use Rattle.art_step.specs.declared.views.View.{View}
 
 -- ---- what it asks
 
-abbrev pub asks_at : Stage → Write → Room → List Place → Option Action
-asks_at stage.Enter m r ps = enters.asks m.enter ps
-asks_at stage.Trying m r ps = attempts.asks m.attempt r
-asks_at stage.Exit m r ps = exits.asks m.exit r.stock
-asks_at stage.Ended m r ps = None
-
--- what the check of a place may tell
-abbrev pub deed_at : Write → Room → Deed
-deed_at m r = attempts.deed_at m.attempt r
+abbrev pub asks_at : Stage → Room → List Place → Option Action
+asks_at (stage.Enter e) r ps = enters.asks e ps
+asks_at (stage.Trying t) r ps = attempts.asks t r
+asks_at (stage.Exit x o) r ps = exits.asks x r.stock
+asks_at (stage.Ended o) r ps = None
 
 -- the next step, where ps wait in limbo
 abbrev pub asks : Write → Room → List Place → Option Action
-asks m r ps = asks_at m.stage m r ps
+asks m r ps = asks_at m.stage r ps
 
-abbrev pub outcome_at : Stage → Outcome → Option Outcome
-outcome_at stage.Ended o = Some o
-outcome_at s o = None
+-- how it will have ended, once that is known
+abbrev pub outcome_in : Stage → Option Outcome
+outcome_in (stage.Exit x o) = Some o
+outcome_in (stage.Ended o) = Some o
+outcome_in s = None
+
+abbrev pub outcome_at : Stage → Option Outcome
+outcome_at (stage.Ended o) = Some o
+outcome_at s = None
 
 -- how it ended, if it has
 abbrev pub ended_at : Write → Option Outcome
-ended_at m = outcome_at m.stage m.outcome
+ended_at m = outcome_at m.stage
+
+-- ---- what its steps bring about
+
+-- of an attempt what that has settled or planned; a step of the frame brings nothing about
+abbrev pub brings_at : Stage → Room → Action → Option Effects
+brings_at (stage.Trying t) r a = asking.given (attempts.deed_at t r) r.change a
+brings_at s r a = None
+
+-- the step may be made
+abbrev pub IsAllowed : Sizes → Write → Room → View → Action → Type 0
+IsAllowed z m r v a = acting.IsAllowed z (brings_at m.stage r a) v a
+
+-- it was made, with this answer
+abbrev pub Answers : Sizes → Write → Room → Action → Answer → View → View → Type 0
+Answers z m r a answer v w = acting.Answers z (brings_at m.stage r a) a answer v w
 
 -- ---- where searches begin
 
@@ -85,15 +108,15 @@ given None r = r
 -- ---- how many steps are left
 
 -- a close takes at most seven
-abbrev pub left_at : Stage → Write → Room → List Place → ℕ
-left_at stage.Enter m r ps = enters.steps_left m.enter ps + tries_left m.left + 7
-left_at stage.Trying m r ps = attempts.steps_left m.left m.attempt + 7
-left_at stage.Exit m r ps = exits.steps_left m.exit r.stock
-left_at stage.Ended m r ps = 0
+abbrev pub left_at : Stage → ℕ → Room → List Place → ℕ
+left_at (stage.Enter e) left r ps = enters.steps_left e ps + tries_left left + 7
+left_at (stage.Trying t) left r ps = attempts.steps_left left t + 7
+left_at (stage.Exit x o) left r ps = exits.steps_left x r.stock
+left_at (stage.Ended o) left r ps = 0
 
 -- at most so many steps come, where ps wait in limbo
 abbrev pub steps_left : Write → Room → List Place → ℕ
-steps_left m r ps = left_at m.stage m r ps
+steps_left m r ps = left_at m.stage m.left r ps
 
 -- so many in all, of so many passes, in so many turns
 abbrev pub most_steps : ℕ → ℕ → List Place → ℕ
@@ -149,19 +172,7 @@ OutcomeBy z u j t c r Overlaps left v = EndsBy z u j t c r ending.Overlaps v
 OutcomeBy z u j t c r Busy left v = EndsSo z u r v × (left ≡ 0)
 OutcomeBy z u j t c r (Crowded b) left v = ⊥
 
--- of an attempt of this job
-pub record HasOutcome (z : Sizes) (u : View) (j : Job) (t : Attempt) (r : Room) (o : Outcome) (left : ℕ) (v : View) : Type 0 where
-  pub job : t.job ≡ j
-  pub fits : OutcomeBy z u t.job t.position t.case r o left v
-
 -- ---- what it knows, of a pass that had the view u when it began, where ps waited
-
--- an attempt of this job at its beginning, of whatever room, by whatever pass that may make one
-pub record IsFirst (j : Job) (t : Attempt) : Type 0 where
-  pub job : t.job ≡ j
-  pub going : attempts.ended_at t ≡ None
-  pub few : (left : ℕ) → attempts.steps_left left t ≤ tries_left left
-  pub fits : (z : Sizes) (u : View) (r : Room) → IsRoom z r → StillTries u u → HasHand z u r → attempts.Fits z u t r u
 
 -- the row is the same, but for the number that its leaf has
 pub record SameRow (r s : Room) : Type 0 where
@@ -173,15 +184,14 @@ pub record MayWrite (z : Sizes) (u : View) (own : ℕ) (ps : List Place) (r : Ro
   pub room : IsRoom z r
   pub has : HasHand z u r
 
-pub record IsEntering (z : Sizes) (u : View) (ps : List Place) (m : Write) (r : Room) (qs : List Place) (v : View) : Type 0 where
-  pub enter : EnterFits z u ps m.enter qs v
-  pub going : enters.ended_at m.enter ≡ None
+pub record IsEntering (z : Sizes) (u : View) (ps : List Place) (m : Write) (e : Enter) (r : Room) (qs : List Place) (v : View) : Type 0 where
+  pub enter : EnterFits z u ps e qs v
+  pub going : enters.ended_at e ≡ None
   pub free : u.held ≡ []
   pub has : HasHand z u r
   pub later : u.steps ≤ v.steps
   pub full : m.left ≡ m.turns
   pub fresh : m.restarts ≡ 0
-  pub first : IsFirst m.job m.attempt
 
 -- the pass was pinned, and no step was taken back
 pub record WasOpened (z : Sizes) (u opened : View) (ps qs : List Place) : Type 0 where
@@ -196,45 +206,47 @@ pub record HasBegun (z : Sizes) (u : View) (restarts : ℕ) (v : View) : Type 0 
   pub few : IsLimited z → v.steps + 30000 * u.failures ≤ u.steps + 30000 * v.failures
 
 -- the pass was pinned, and attempts go on; so many turns are left at least
-pub record IsTrying (z : Sizes) (u : View) (ps : List Place) (m : Write) (r : Room) (qs : List Place) (v : View) : Type 0 where
+pub record IsTrying (z : Sizes) (u : View) (ps : List Place) (m : Write) (t : Attempt) (r : Room) (qs : List Place) (v : View) : Type 0 where
   pub opened : View
   pub began : View
   pub frame : WasOpened z u opened ps qs
   pub begun : HasBegun z opened m.restarts began
-  pub job : m.attempt.job ≡ m.job
-  pub fits : attempts.Fits z began m.attempt r v
-  pub going : attempts.ended_at m.attempt ≡ None
+  pub job : t.job ≡ m.job
+  pub fits : attempts.Fits z began t r v
+  pub going : attempts.ended_at t ≡ None
   pub counted : opened.steps + m.turns ≤ v.steps + m.left
 
--- a turn is left, where nothing is held
-abbrev pub HasTurn : Write → Type 0
-HasTurn m = attempts.is_free m.attempt ≡ true → 0 < m.left
+-- a turn is left, where the attempt holds nothing
+abbrev pub HasTurn : ℕ → Attempt → Type 0
+HasTurn left t = attempts.is_free t ≡ true → 0 < left
 
--- the last attempt has ended, when these numbers were in hand and those places waited
-pub record IsExiting (z : Sizes) (u : View) (ps : List Place) (m : Write) (r : Room) (qs : List Place) (v : View) : Type 0 where
+-- the last attempt has ended, when these numbers were in hand and those places waited; the key stood there for it, and this was its case
+pub record IsExiting (z : Sizes) (u : View) (ps : List Place) (m : Write) (x : Exit) (o : Outcome) (r : Room) (qs : List Place) (v : View)
+    : Type 0 where
   pub opened : View
   pub began : View
   pub ended : View
   pub stock : Stock
   pub waiting : List Place
+  pub position : Position
+  pub case : Case
   pub frame : WasOpened z u opened ps waiting
   pub begun : HasBegun z opened m.restarts began
-  pub outcome : HasOutcome z began m.job m.attempt (record r { stock = stock }) m.outcome m.left ended
+  pub outcome : OutcomeBy z began m.job position case (record r { stock = stock }) o m.left ended
   pub later : ended.steps ≤ v.steps
   pub counted : opened.steps + m.turns ≤ ended.steps + m.left
-  pub fits : ExitFits z r.row.key.items r.row.value ended waiting (links_of (gone_by m.outcome r.change))
-      m.exit qs r.stock v
+  pub fits : ExitFits z r.row.key.items r.row.value ended waiting (links_of (gone_by o r.change)) x qs r.stock v
 
 -- limbo was crowded, or the close has ended
 abbrev pub IsDone : Sizes → View → List Place → Outcome → Write → Room → List Place → View → Type 0
 IsDone z u ps (Crowded b) m r qs v = IsCrowded z u v ps qs b × (u.held ≡ []) × HasHand z u r × (m.restarts ≡ 0)
-IsDone z u ps o m r qs v = IsExiting z u ps m r qs v × (exits.is_ended m.exit ≡ true)
+IsDone z u ps o m r qs v = IsExiting z u ps m exit.Ended o r qs v
 
 abbrev pub StageFits : Sizes → View → List Place → Stage → Write → Room → List Place → View → Type 0
-StageFits z u ps stage.Enter m r qs v = IsEntering z u ps m r qs v
-StageFits z u ps stage.Trying m r qs v = IsTrying z u ps m r qs v × HasTurn m
-StageFits z u ps stage.Exit m r qs v = IsExiting z u ps m r qs v × (exits.is_ended m.exit ≡ false)
-StageFits z u ps stage.Ended m r qs v = IsDone z u ps m.outcome m r qs v
+StageFits z u ps (stage.Enter e) m r qs v = IsEntering z u ps m e r qs v
+StageFits z u ps (stage.Trying t) m r qs v = IsTrying z u ps m t r qs v × HasTurn m.left t
+StageFits z u ps (stage.Exit x o) m r qs v = IsExiting z u ps m x o r qs v × (exits.is_ended x ≡ false)
+StageFits z u ps (stage.Ended o) m r qs v = IsDone z u ps o m r qs v
 
 pub record Fits (z : Sizes) (u : View) (ps : List Place) (m : Write) (r : Room) (qs : List Place) (v : View) : Type 0 where
   pub room : IsRoom z r
@@ -251,19 +263,19 @@ is_refusal Absent = false
 is_refusal o = true
 
 -- it will end as a refusal: it has come to one, or has no turns
-abbrev pub refuses_at : Stage → Write → Type 0
-refuses_at stage.Enter m = m.left ≡ 0
-refuses_at stage.Trying m = ⊥
-refuses_at stage.Exit m = is_refusal m.outcome ≡ true
-refuses_at stage.Ended m = is_refusal m.outcome ≡ true
+abbrev pub refuses_at : Stage → ℕ → Type 0
+refuses_at (stage.Enter e) left = left ≡ 0
+refuses_at (stage.Trying t) left = ⊥
+refuses_at (stage.Exit x o) left = is_refusal o ≡ true
+refuses_at (stage.Ended o) left = is_refusal o ≡ true
 
 abbrev pub WillRefuse : Write → Type 0
-WillRefuse m = refuses_at m.stage m
+WillRefuse m = refuses_at m.stage m.left
 
 -- the turns that it has used where it is given up
 abbrev pub turns_used_at : Stage → Write → ℕ
-turns_used_at stage.Enter m = 0
-turns_used_at stage.Trying m = m.turns - m.left
+turns_used_at (stage.Enter e) m = 0
+turns_used_at (stage.Trying t) m = m.turns - m.left
 turns_used_at s m = m.turns
 
 abbrev pub turns_used : Write → ℕ
@@ -291,16 +303,22 @@ pub record IsFresh (z : Sizes) (u : View) (own : ℕ) : Type 0 where
 
 -- why it ended so, of checks after the view u, by what the pass has at the end: the change that was made is the one that what was read and
 -- found tells; a refusal has its cause. Of an answer that a check told, its event says all; turns are counted elsewhere
-abbrev pub IsCause : Sizes → View → Attempt → Room → Outcome → View → Type 0
-IsCause z u m r New v = GoesBy z u m.position m.case r v
-IsCause z u m r (Gone value) v = GoesBy z u m.position m.case r v
-IsCause z u m r (Full pool) v = IsFull z u m.position r pool v
-IsCause z u m r (Exhausted x) v = IsExhausted z u m.job m.position m.case r x v
-IsCause z u m r Overlaps v = IsOverlap z u m.position r v
-IsCause z u m r (Present stands) v = ⊤
-IsCause z u m r Absent v = ⊤
-IsCause z u m r Busy v = ⊤
-IsCause z u m r (Crowded b) v = ⊤
+abbrev pub IsCause : Sizes → View → Job → Position → Case → Room → Outcome → View → Type 0
+IsCause z u j t c r New v = GoesBy z u t c r v
+IsCause z u j t c r (Gone value) v = GoesBy z u t c r v
+IsCause z u j t c r (Full pool) v = IsFull z u t r pool v
+IsCause z u j t c r (Exhausted x) v = IsExhausted z u j t c r x v
+IsCause z u j t c r Overlaps v = IsOverlap z u t r v
+IsCause z u j t c r (Present stands) v = ⊤
+IsCause z u j t c r Absent v = ⊤
+IsCause z u j t c r Busy v = ⊤
+IsCause z u j t c r (Crowded b) v = ⊤
+
+-- by where the key stood for its last attempt, and by the case of that, where one was made
+abbrev pub HasCause : (z : Sizes) (u : View) (ps : List Place) (o : Outcome) (m : Write) (r : Room) (qs : List Place) (v : View) →
+    IsDone z u ps o m r qs v → Type 0
+HasCause z u ps (Crowded b) m r qs v done = ⊤
+HasCause z u ps o m r qs v done = IsCause z u m.job done.position done.case r o v
 
 -- it ended so, with what its outcome came of: as a machine of this job has it that was run to its end, with these turns and restarts
 pub record HasGround (z : Sizes) (u : View) (j : Job) (ps : List Place) (turns restarts : ℕ) (o : Outcome) (r : Room) (qs : List Place)
@@ -309,9 +327,9 @@ pub record HasGround (z : Sizes) (u : View) (j : Job) (ps : List Place) (turns r
   pub job_is : machine.job ≡ j
   pub turns_are : machine.turns ≡ turns
   pub restarts_are : machine.restarts ≡ restarts
-  pub outcome_is : machine.outcome ≡ o
+  pub outcome_is : ended_at machine ≡ Some o
   pub done : IsDone z u ps o machine r qs v
-  pub cause : IsCause z u machine.attempt r o v
+  pub cause : HasCause z u ps o machine r qs v done
 
 -- so many steps were counted as there were turns, and in a table within its limits these are few beside the failures
 pub record UsedTurns (z : Sizes) (u : View) (turns : ℕ) (v : View) : Type 0 where
@@ -323,15 +341,20 @@ pub record HasCounted (z : Sizes) (u : View) (turns restarts : ℕ) (o : Outcome
   pub failed : u.failures + restarts ≤ v.failures
   pub busy : o ≡ Busy → UsedTurns z u turns v
 
--- it did not try anew, or this answer to its attempt was why
+-- this answer to its attempt is why it tries anew
+abbrev pub restarts_by : Stage → Answer → Type 0
+restarts_by (stage.Trying t) answer = attempts.IsRestartBy t.stage answer
+restarts_by s answer = ⊥
+
+-- it did not try anew, or this answer was why
 abbrev pub RestartsBy : Write → Write → Answer → Type 0
-RestartsBy m next answer = (next.restarts ≡ m.restarts) ⊎ attempts.IsRestartBy m.attempt.stage answer
+RestartsBy m next answer = (next.restarts ≡ m.restarts) ⊎ restarts_by m.stage answer
 
 -- ---- an overlap
 
--- the outcome is not that a key begins the other
+-- the outcome, once it is known, is not that a key begins the other
 abbrev pub IsApart : Write → Type 0
-IsApart m = m.outcome ≢ Overlaps
+IsApart m = outcome_in m.stage ≢ Some Overlaps
 
 -- from the view v to the view w a check succeeded, by whose notes the key k begins that of a row, or that of a row begins it
 pub record FindsOverlap (z : Sizes) (k : List ℕ) (v w : View) : Type 0 where
@@ -352,10 +375,14 @@ pub record IsSameWrite (m : Write) (r : Room) (n : Write) (s : Room) : Type 0 wh
   pub refuses : WillRefuse m → WillRefuse n
   pub apart : IsApart m → IsApart n
 
--- that became the outcome only where this answer to its attempt was why
+-- by this answer its attempt ends so
+abbrev pub overlaps_by : Stage → Answer → Type 0
+overlaps_by (stage.Trying t) answer = attempts.IsOverlapBy t answer
+overlaps_by s answer = ⊥
+
+-- that became the outcome only where this answer was why
 abbrev pub OverlapsBy : Write → Write → Answer → Type 0
-OverlapsBy m next answer = next.outcome ≡ Overlaps → (m.outcome ≡ Overlaps) ⊎
-    ((m.stage ≡ stage.Trying) × attempts.IsOverlapBy m.attempt answer)
+OverlapsBy m next answer = outcome_in next.stage ≡ Some Overlaps → (outcome_in m.stage ≡ Some Overlaps) ⊎ overlaps_by m.stage answer
 
 -- ---- what is answered
 

@@ -1,16 +1,15 @@
 //! Makes the steps of a write.
 ghost use Rattle.std.specs.Prelude.{◌≡◌, ◌+◌, ◌<◌, ◌≤◌, List, None, Some};
-ghost use Rattle.art_change.specs.Writes.{Fits, IsApart, NoneOverlaps, RestartsBy, SameRow, WillRefuse, asks, deed_at as deed_of};
+ghost use Rattle.art_change.specs.Writes.{Answers, Fits, IsAllowed, IsApart, NoneOverlaps, RestartsBy, SameRow, WillRefuse, asks};
 ghost use Rattle.art_change.specs.Writes.{ended_at, steps_left};
 ghost use Rattle.art_change.specs.declared.writes.Outcome.{Outcome as OutcomeOf};
 ghost use Rattle.art_epoch.specs.Limbo.{places_of};
 ghost use Rattle.art_epoch.specs.declared.limbo.Place.{Place};
-ghost use Rattle.art_attempt.specs.Asking.{Answers, IsAllowed};
 ghost use Rattle.art_step.specs.Histories.{AreApart};
 ghost use Rattle.art_step.specs.declared.views.View.{View};
 
 use crate::Write;
-use art_attempt::{Room, make};
+use art_attempt::Room;
 use art_epoch::Limbo;
 use art_machine::{Action, Answer};
 use art_step::EpochSteps;
@@ -38,9 +37,8 @@ pub fn step<S: EpochSteps>(
     ensures turns { write.new.turns ≡ write.old.turns }
     ensures key { SameRow room.old room.new }
     ensures asked { asks write.old room.old (places_of limbo.old) ≡ Some result.action }
-    ensures allowed { IsAllowed (S.sizes steps.old) (deed_of write.old room.old) room.old.change (S.view steps.old) result.action }
-    ensures row { Answers (S.sizes steps.old) (deed_of write.old room.old) room.old.change result.action result.answer
-        (S.view steps.old) (S.view steps.new) }
+    ensures allowed { IsAllowed (S.sizes steps.old) write.old room.old (S.view steps.old) result.action }
+    ensures row { Answers (S.sizes steps.old) write.old room.old result.action result.answer (S.view steps.old) (S.view steps.new) }
     ensures restarts { RestartsBy write.old write.new result.answer }
     ensures refuses { WillRefuse write.old → WillRefuse write.new }
     ensures apart { NoneOverlaps (S.admits steps.old) (S.sizes steps.old) room.old.row.key.items
@@ -54,7 +52,7 @@ pub fn step<S: EpochSteps>(
     let Some(action) = write.next(room, limbo) else {
         unreachable!()
     };
-    let answer = make(steps, action, write.attempt(), room);
+    let answer = write.make_step(steps, action, room);
     write.told(room, limbo, answer);
     Stepped { action, answer }
 }

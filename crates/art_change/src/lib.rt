@@ -22,13 +22,14 @@
 //!
 //! # What stands beside it
 //!
-//! `Write` is a value of scalars with `next` and `told`. Its `Job` says whether the row of the room comes, or the row with its key
-//! goes. The room of its attempts and the limbo of the pass stand beside it.
+//! `Write` is a value of scalars with `next` and `told`, and its `Stage` has what is under way: the opening, an attempt, or the close
+//! with the outcome. Its `Job` says whether the row of the room comes, or the row with its key goes. The room of its attempts and the
+//! limbo of the pass stand beside it.
 //!
 //! # What is proved
 //!
 //! Each step may be made, and each answer keeps what the machine knows (`Fits`). When it has ended (`IsDone`), either limbo was
-//! crowded and nothing was pinned, or the frame was opened, the last attempt ended so (`HasOutcome`, with the grounds of each
+//! crowded and nothing was pinned, or the frame was opened, the last attempt ended so (`OutcomeBy`, with the grounds of each
 //! refusal), and the frame is closed: the pass is idle and has nothing in hand. `Busy` comes only where as many steps were made
 //! as turns were given, and these are few beside the failures that were met; each restart was a failure (`HasCounted`). `Overlaps`
 //! never comes where no admitted key begins another, as those of one schema never do: the check of such a place shows a tree with

@@ -1,27 +1,29 @@
 //! A write, step by step: its opening, its attempts, its close.
 ghost use Rattle.std.specs.Prelude.{◌≡◌, ◌≢◌, ◌⊎◌, ℕ, ◌+◌, ◌-◌, ◌<◌, ◌≤◌, List, [], length, Some, None, true, false};
-ghost use Rattle.art_attempt.specs.Asking.{Answers};
-ghost use Rattle.art_attempt.specs.Attempts.{EndFits, HasHand, IsRoom, ended_left, is_free, tries_left};
-ghost use Rattle.art_attempt.specs.Attempts.{asks as attempt_asks};
-ghost use Rattle.art_attempt.specs.declared.rooms.Room.{Room as RoomOf};
-ghost use Rattle.art_change.specs.Writes.{Fits, HasAnswered, HasBegun, HasCounted, HasGround, HasOutcome, HasTurn, IsApart, IsExiting, IsFirst, IsEntering, IsReady, IsSameWrite, IsTrying, MayWrite, OverlapsBy, RestartsBy, SameRow, WasOpened};
-ghost use Rattle.art_change.specs.Writes.{HoldsOrTold, WillRefuse, freed_by, given, is_refusal, turns_used};
-ghost use Rattle.art_change.specs.Writes.{asks, asks_at, deed_at, ended_at, gone_by, left_at, most_steps, or_busy, outcome_of, steps_left};
+ghost use Rattle.art_attempt.specs.Attempts.{EndsBy, HasHand, IsRoom, ended_left, tries_left};
+ghost use Rattle.art_attempt.specs.declared.attempts.Attempt.{Attempt as AttemptOf};
 ghost use Rattle.art_attempt.specs.declared.attempts.Ending.TheVariants.{Restart as anew, Overlaps as attempt_overlaps};
+ghost use Rattle.art_attempt.specs.declared.cases.Case.{Case as CaseOf};
+ghost use Rattle.art_attempt.specs.declared.rooms.Room.{Room as RoomOf};
+ghost use Rattle.art_change.specs.Writes.{Answers, Fits, HasAnswered, HasBegun, HasCounted, HasGround, IsAllowed, IsApart, IsReady, IsSameWrite, IsTrying, MayWrite, OutcomeBy, OverlapsBy, RestartsBy, SameRow, WasOpened};
+ghost use Rattle.art_change.specs.Writes.{HoldsOrTold, WillRefuse, freed_by, given, is_refusal, turns_used};
+ghost use Rattle.art_change.specs.Writes.{asks, ended_at, gone_by, most_steps, or_busy, outcome_in, outcome_of, steps_left};
+ghost use Rattle.art_change.specs.declared.writes.Outcome.{Outcome as OutcomeOf};
 ghost use Rattle.art_change.specs.declared.writes.Outcome.TheVariants.{Overlaps as overlaps};
 ghost use Rattle.art_change.specs.declared.writes.Stage.TheVariants as stages;
 ghost use Rattle.art_epoch.specs.Limbo.{places_of};
 ghost use Rattle.art_epoch.specs.declared.limbo.Place.{Place};
-ghost use Rattle.art_epoch.specs.Exit.{asks as exit_asks, is_ended};
 ghost use Rattle.art_epoch.specs.Enter.{asks as enter_asks};
+ghost use Rattle.art_epoch.specs.declared.enter.Enter.{Enter as EnterOf};
+ghost use Rattle.art_epoch.specs.declared.exit.Exit.{Exit as ExitOf};
 ghost use Rattle.art_epoch.specs.declared.stocks.Stock.{Stock as StockOf};
-ghost use Rattle.art_machine.specs.Acting.{Answers as ActionAnswers, IsAllowed as IsActionAllowed};
+ghost use Rattle.art_find.specs.declared.findings.Position.{Position as PositionOf};
+ghost use Rattle.art_machine.specs.Acting.{IsAllowed as IsActionAllowed, PassesAmong};
 ghost use Rattle.art_machine.specs.declared.actions.Action.{Action as ActionOf};
-ghost use Rattle.art_step.specs.declared.deeds.Deed.{Deed};
 ghost use Rattle.art_step.specs.declared.views.Sizes.{Sizes};
 ghost use Rattle.art_step.specs.declared.views.View.{View};
 
-use art_attempt::{Attempt, Ending, Job, Room};
+use art_attempt::{Attempt, Ending, Job, Room, make};
 use art_cell::{Cell, Pool};
 use art_epoch::{Blocker, Enter, Entered, Exit, Limbo};
 use art_machine::{Action, Answer, perform};
@@ -59,12 +61,12 @@ const STAGES: u32 = 6;
 #[derive(Clone, Copy)]
 pub enum Stage {
     /// What waits goes back, and the pass is pinned.
-    Enter,
+    Enter(Enter),
     /// An attempt is made.
-    Trying,
-    /// What was unlinked gets its label, what is in hand goes back, the pass goes idle.
-    Exit,
-    Ended,
+    Trying(Attempt),
+    /// What was unlinked gets its label, what is in hand goes back, the pass goes idle; it will have ended so.
+    Exit { exit: Exit, outcome: Outcome },
+    Ended(Outcome),
 }
 
 /// An insert of the row of a room, or a removal of the row with its key. The room and the limbo of the pass stand beside it.
@@ -72,10 +74,6 @@ pub enum Stage {
 pub struct Write {
     job: Job,
     stage: Stage,
-    enter: Enter,
-    attempt: Attempt,
-    exit: Exit,
-    outcome: Outcome,
     turns: u32,
     /// How many turns are left: steps that its attempts may still make while nothing is held.
     left: u32,
@@ -84,7 +82,6 @@ pub struct Write {
 
 impl Write {
     ghost use Rattle.std.specs.Prelude.{IfSome};
-    ghost use Rattle.art_attempt.specs.Asking.{IsAllowed};
 
     /// By the pass `own`, in so many turns.
     pub fn new(job: Job, own: u32, turns: u32, room: &Room, limbo: &Limbo) -> Write
@@ -98,11 +95,7 @@ impl Write {
     {
         Write {
             job,
-            stage: Stage::Enter,
-            enter: Enter::new(own, room.sizes.passes, limbo),
-            attempt: Attempt::new(job),
-            exit: Exit::Ended,
-            outcome: Outcome::Busy,
+            stage: Stage::Enter(Enter::new(own, room.sizes.passes, limbo)),
             turns,
             left: turns,
             restarts: 0,
@@ -114,15 +107,15 @@ impl Write {
         requires { (z : Sizes) × (u : View) × (v : View) × (ps : List Place) × Fits z u ps self.now room.now (places_of limbo.now) v }
         ensures asks { result ≡ asks self.now room.now (places_of limbo.now) }
         ensures allowed { (z : Sizes) (u v : View) (ps : List Place) → Fits z u ps self.now room.now (places_of limbo.now) v →
-            IfSome result (IsAllowed z (deed_at self.now room.now) room.now.change v) }
+            IfSome result (IsAllowed z self.now room.now v) }
         ensures going { (z : Sizes) (u v : View) (ps : List Place) → Fits z u ps self.now room.now (places_of limbo.now) v →
             ended_at self.now ≡ None → (a : ActionOf) × (result ≡ Some a) }
     {
-        match self.stage {
-            Stage::Enter => self.enter_next(limbo),
-            Stage::Trying => self.try_next(room),
-            Stage::Exit => self.exit_next(room),
-            Stage::Ended => None,
+        match &self.stage {
+            Stage::Enter(enter) => enter.next(limbo),
+            Stage::Trying(attempt) => attempt.next(room),
+            Stage::Exit { exit, .. } => exit.next(&room.stock),
+            Stage::Ended(_) => None,
         }
     }
 
@@ -130,7 +123,7 @@ impl Write {
     pub fn told(&mut self, room: &mut Room, limbo: &mut Limbo, answer: Answer)
         requires { (z : Sizes) × (u : View) × (v : View) × (w : View) × (ps : List Place) × (asked : ActionOf) ×
             Fits z u ps self.old room.old (places_of limbo.old) v × (asks self.old room.old (places_of limbo.old) ≡ Some asked) ×
-            Answers z (deed_at self.old room.old) room.old.change asked answer v w }
+            Answers z self.old room.old asked answer v w }
         ensures job { self.new.job ≡ self.old.job }
         ensures turns { self.new.turns ≡ self.old.turns }
         ensures restarts { RestartsBy self.old self.new answer }
@@ -139,15 +132,14 @@ impl Write {
         ensures key { SameRow room.old room.new }
         ensures fits { (z : Sizes) (u v w : View) (ps : List Place) (asked : ActionOf) →
             Fits z u ps self.old room.old (places_of limbo.old) v → asks self.old room.old (places_of limbo.old) ≡ Some asked →
-            Answers z (deed_at self.old room.old) room.old.change asked answer v w →
-            Fits z u ps self.new room.new (places_of limbo.new) w }
+            Answers z self.old room.old asked answer v w → Fits z u ps self.new room.new (places_of limbo.new) w }
         ensures left { steps_left self.new room.new (places_of limbo.new) < steps_left self.old room.old (places_of limbo.old) }
     {
         match self.stage {
-            Stage::Enter => self.enter_on(room, limbo, answer),
-            Stage::Trying => self.try_told(room, answer),
-            Stage::Exit => self.exit_told(room, limbo, answer),
-            Stage::Ended => {}
+            Stage::Enter(_) => self.enter_on(room, limbo, answer),
+            Stage::Trying(_) => self.try_told(room, answer),
+            Stage::Exit { .. } => self.exit_told(room, limbo, answer),
+            Stage::Ended(_) => {}
         }
     }
 
@@ -165,7 +157,7 @@ impl Write {
         ensures refused { IfSome result (λ o. WillRefuse self.now → is_refusal o ≡ true) }
     {
         match self.stage {
-            Stage::Ended => Some(self.outcome),
+            Stage::Ended(outcome) => Some(outcome),
             _ => None,
         }
     }
@@ -186,44 +178,41 @@ impl Write {
             HoldsOrTold u v }
     {
         match self.stage {
-            Stage::Enter => {
+            Stage::Enter(_) => {
                 self.turns = 0;
                 self.left = 0;
                 true
             }
-            Stage::Trying => self.stop(room),
-            Stage::Exit | Stage::Ended => is_refusal(self.outcome),
+            Stage::Trying(_) => self.stop(room),
+            Stage::Exit { outcome, .. } | Stage::Ended(outcome) => is_refusal(outcome),
         }
     }
 
     /// The attempt ends here, if nothing is held.
     fn stop(&mut self, room: &Room) -> bool
-        requires stage { self.old.stage ≡ stages.Trying }
+        requires stage { (t : AttemptOf) × (self.old.stage ≡ stages.Trying t) }
         ensures job { self.new.job ≡ self.old.job }
         ensures restarts { self.new.restarts ≡ self.old.restarts }
         ensures turns { result ≡ true → self.new.turns ≡ self.old.turns - self.old.left }
         ensures left { result ≡ true → (qs : List Place) → steps_left self.new room.now qs ≤ 7 }
         ensures refuses { result ≡ true → WillRefuse self.new }
-        ensures apart { IsApart self.old → IsApart self.new }
+        ensures apart { IsApart self.new }
         ensures fits { (z : Sizes) (u v : View) (ps qs : List Place) → Fits z u ps self.old room.now qs v →
             Fits z u ps self.new room.now qs v }
         ensures kept { result ≡ false → self.new ≡ self.old }
-        ensures why { result ≡ false → is_free self.old.attempt ≡ false }
+        ensures why { result ≡ false → (z : Sizes) (u v : View) (ps qs : List Place) → Fits z u ps self.old room.now qs v →
+            HoldsOrTold u v }
     {
-        if !self.attempt.is_free() {
+        let Stage::Trying(attempt) = &self.stage else {
+            unreachable!()
+        };
+        if !attempt.is_free() {
             return false;
         }
         self.turns = self.turns.saturating_sub(self.left);
         self.left = 0;
         self.begin_exit(room, Outcome::Busy);
         true
-    }
-
-    /// Its attempt.
-    pub(crate) fn attempt(&self) -> &Attempt
-        ensures { result.now ≡ self.now.attempt }
-    {
-        &self.attempt
     }
 
     /// How often it tried anew.
@@ -233,135 +222,91 @@ impl Write {
         self.restarts
     }
 
-    /// What comes next of the opening.
-    fn enter_next(&self, limbo: &Limbo) -> Option<Action>
-        ensures asks { (r : RoomOf) → result ≡ asks_at stages.Enter self.now r (places_of limbo.now) }
-        ensures allowed { (z : Sizes) (u v : View) (ps : List Place) (r : RoomOf) (d : Deed) →
-            IsEntering z u ps self.now r (places_of limbo.now) v → IfSome result (IsAllowed z d r.change v) }
-        ensures going { (z : Sizes) (u v : View) (ps : List Place) (r : RoomOf) → IsEntering z u ps self.now r (places_of limbo.now) v →
-            (a : ActionOf) × (result ≡ Some a) }
+    /// Makes the step that it asks for, of its attempt or of its frame.
+    pub(crate) fn make_step<S: EpochSteps>(&self, steps: &mut S, action: Action, room: &Room) -> Answer
+        requires admitted { S.admits steps.old room.now.row.key.items }
+        requires fits { (u : View) × (ps : List Place) × (qs : List Place) ×
+            Fits (S.sizes steps.old) u ps self.now room.now qs (S.view steps.old) × (asks self.now room.now qs ≡ Some action) }
+        requires allowed { IsAllowed (S.sizes steps.old) self.now room.now (S.view steps.old) action }
+        ensures only { S.only steps.old steps.new }
+        ensures row { Answers (S.sizes steps.old) self.now room.now action result (S.view steps.old) (S.view steps.new) }
+        ensures keys { PassesAmong (S.admits steps.old) (S.sizes steps.old) (S.view steps.old) action result }
     {
-        self.enter.next(limbo)
-    }
-
-    /// What comes next of an attempt.
-    fn try_next(&self, room: &Room) -> Option<Action>
-        requires { (z : Sizes) × (u : View) × (v : View) × (ps : List Place) × (qs : List Place) × IsTrying z u ps self.now room.now qs v }
-        ensures asks { (qs : List Place) → result ≡ asks_at stages.Trying self.now room.now qs }
-        ensures allowed { (z : Sizes) (u v : View) (ps qs : List Place) → IsTrying z u ps self.now room.now qs v →
-            IfSome result (IsAllowed z (deed_at self.now room.now) room.now.change v) }
-        ensures going { (z : Sizes) (u v : View) (ps qs : List Place) → IsTrying z u ps self.now room.now qs v →
-            (a : ActionOf) × (result ≡ Some a) }
-    {
-        self.attempt.next(room)
-    }
-
-    /// What comes next of the close.
-    fn exit_next(&self, room: &Room) -> Option<Action>
-        ensures asks { (qs : List Place) → result ≡ asks_at stages.Exit self.now room.now qs }
-        ensures allowed { (z : Sizes) (u v : View) (ps qs : List Place) (d : Deed) → IsExiting z u ps self.now room.now qs v →
-            IfSome result (IsAllowed z d room.now.change v) }
-        ensures going { is_ended self.now.exit ≡ false → (a : ActionOf) × (result ≡ Some a) }
-    {
-        self.exit.next(&room.stock)
+        match &self.stage {
+            Stage::Trying(attempt) => make(steps, action, attempt, room),
+            Stage::Enter(_) | Stage::Exit { .. } | Stage::Ended(_) => perform(steps, action, None),
+        }
     }
 
     /// A step of the opening was made. Where a number went back by it, the next search of its pool begins there.
     fn enter_on(&mut self, room: &mut Room, limbo: &mut Limbo, answer: Answer)
-        requires stage { self.old.stage ≡ stages.Enter }
+        requires stage { (e : EnterOf) × (self.old.stage ≡ stages.Enter e) }
         requires told { (z : Sizes) × (u : View) × (v : View) × (w : View) × (ps : List Place) × (asked : ActionOf) ×
-            IsRoom z room.old × IsEntering z u ps self.old room.old (places_of limbo.old) v ×
-            (enter_asks self.old.enter (places_of limbo.old) ≡ Some asked) × ActionAnswers z None asked answer v w }
+            Fits z u ps self.old room.old (places_of limbo.old) v × (asks self.old room.old (places_of limbo.old) ≡ Some asked) ×
+            Answers z self.old room.old asked answer v w }
         ensures job { self.new.job ≡ self.old.job }
         ensures turns { self.new.turns ≡ self.old.turns }
         ensures restarts { self.new.restarts ≡ self.old.restarts }
         ensures refuses { self.old.left ≡ 0 → WillRefuse self.new }
-        ensures overlaps { self.new.outcome ≡ overlaps → self.old.outcome ≡ overlaps }
-        ensures hints { room.new ≡ given (freed_by (enter_asks self.old.enter (places_of limbo.old))) room.old }
-        ensures left { steps_left self.new room.new (places_of limbo.new) < left_at stages.Enter self.old room.old (places_of limbo.old) }
-        ensures fits { (z : Sizes) (u v w : View) (ps : List Place) (asked : ActionOf) → IsRoom z room.old →
-            IsEntering z u ps self.old room.old (places_of limbo.old) v →
-            enter_asks self.old.enter (places_of limbo.old) ≡ Some asked → ActionAnswers z None asked answer v w →
-            Fits z u ps self.new room.new (places_of limbo.new) w }
+        ensures apart { IsApart self.new }
+        ensures key { SameRow room.old room.new }
+        ensures left { steps_left self.new room.new (places_of limbo.new) < steps_left self.old room.old (places_of limbo.old) }
+        ensures fits { (z : Sizes) (u v w : View) (ps : List Place) (asked : ActionOf) →
+            Fits z u ps self.old room.old (places_of limbo.old) v → asks self.old room.old (places_of limbo.old) ≡ Some asked →
+            Answers z self.old room.old asked answer v w → Fits z u ps self.new room.new (places_of limbo.new) w }
     {
-        self.note_given(room, limbo);
+        let Stage::Enter(enter) = &self.stage else {
+            unreachable!()
+        };
+        note_given(enter, room, limbo);
         self.enter_told(room, limbo, answer);
-    }
-
-    /// Where a number goes back by the next step of the opening, a search of its pool begins at its word.
-    fn note_given(&self, room: &mut Room, limbo: &Limbo)
-        ensures { room.new ≡ given (freed_by (enter_asks self.now.enter (places_of limbo.now))) room.old }
-    {
-        if let Some(Action::Free { link }) = self.enter.next(limbo) {
-            room.stock.start_at(link);
-        }
     }
 
     /// A step of the opening was made.
     fn enter_told(&mut self, room: &Room, limbo: &mut Limbo, answer: Answer)
-        requires stage { self.old.stage ≡ stages.Enter }
+        requires stage { (e : EnterOf) × (self.old.stage ≡ stages.Enter e) }
         requires told { (z : Sizes) × (u : View) × (v : View) × (w : View) × (ps : List Place) × (asked : ActionOf) ×
-            IsRoom z room.now × IsEntering z u ps self.old room.now (places_of limbo.old) v ×
-            (enter_asks self.old.enter (places_of limbo.old) ≡ Some asked) × ActionAnswers z None asked answer v w }
+            Fits z u ps self.old room.now (places_of limbo.old) v × (asks self.old room.now (places_of limbo.old) ≡ Some asked) ×
+            Answers z self.old room.now asked answer v w }
         ensures job { self.new.job ≡ self.old.job }
         ensures turns { self.new.turns ≡ self.old.turns }
         ensures restarts { self.new.restarts ≡ self.old.restarts }
         ensures refuses { self.old.left ≡ 0 → WillRefuse self.new }
-        ensures overlaps { self.new.outcome ≡ overlaps → self.old.outcome ≡ overlaps }
-        ensures left { steps_left self.new room.now (places_of limbo.new) < left_at stages.Enter self.old room.now (places_of limbo.old) }
-        ensures fits { (z : Sizes) (u v w : View) (ps : List Place) (asked : ActionOf) → IsRoom z room.now →
-            IsEntering z u ps self.old room.now (places_of limbo.old) v →
-            enter_asks self.old.enter (places_of limbo.old) ≡ Some asked → ActionAnswers z None asked answer v w →
-            Fits z u ps self.new room.now (places_of limbo.new) w }
+        ensures apart { IsApart self.new }
+        ensures left { steps_left self.new room.now (places_of limbo.new) < steps_left self.old room.now (places_of limbo.old) }
+        ensures fits { (z : Sizes) (u v w : View) (ps : List Place) (asked : ActionOf) →
+            Fits z u ps self.old room.now (places_of limbo.old) v → asks self.old room.now (places_of limbo.old) ≡ Some asked →
+            Answers z self.old room.now asked answer v w → Fits z u ps self.new room.now (places_of limbo.new) w }
     {
-        self.enter.told(limbo, answer);
-        match self.enter.ended() {
+        let Stage::Enter(enter) = &mut self.stage else {
+            unreachable!()
+        };
+        enter.told(limbo, answer);
+        match enter.ended() {
             None => {}
-            Some(Entered::Pinned) => self.begin(room),
-            Some(Entered::Crowded(blocker)) => {
-                self.outcome = Outcome::Crowded(blocker);
-                self.stage = Stage::Ended;
-            }
+            Some(Entered::Pinned) => self.go_on(room),
+            Some(Entered::Crowded(blocker)) => self.stage = Stage::Ended(Outcome::Crowded(blocker)),
         }
     }
 
-    /// Another attempt is made, where turns are left.
+    /// An attempt is made, where turns are left: the first, or another.
     fn go_on(&mut self, room: &Room)
         ensures going { ended_at self.new ≡ None }
         ensures job { self.new.job ≡ self.old.job }
         ensures turns { self.new.turns ≡ self.old.turns }
         ensures restarts { self.new.restarts ≡ self.old.restarts }
         ensures refuses { self.old.left ≡ 0 → WillRefuse self.new }
-        ensures overlaps { self.new.outcome ≡ overlaps → self.old.outcome ≡ overlaps }
+        ensures apart { IsApart self.new }
         ensures left { (qs : List Place) → steps_left self.new room.now qs ≤ tries_left self.old.left + 7 }
         ensures fits { (z : Sizes) (u opened v : View) (ps qs : List Place) → IsRoom z room.now → WasOpened z u opened ps qs →
             HasBegun z opened self.old.restarts v → HasHand z v room.now →
             opened.steps + self.old.turns ≤ v.steps + self.old.left → Fits z u ps self.new room.now qs v }
     {
-        self.attempt = Attempt::new(self.job);
-        self.begin(room);
-    }
-
-    /// The attempt that stands at its beginning is made, where turns are left.
-    fn begin(&mut self, room: &Room)
-        ensures going { ended_at self.new ≡ None }
-        ensures job { self.new.job ≡ self.old.job }
-        ensures turns { self.new.turns ≡ self.old.turns }
-        ensures restarts { self.new.restarts ≡ self.old.restarts }
-        ensures refuses { self.old.left ≡ 0 → WillRefuse self.new }
-        ensures overlaps { self.new.outcome ≡ overlaps → self.old.outcome ≡ overlaps }
-        ensures left { IsFirst self.old.job self.old.attempt → (qs : List Place) →
-            steps_left self.new room.now qs ≤ tries_left self.old.left + 7 }
-        ensures fits { IsFirst self.old.job self.old.attempt → (z : Sizes) (u opened v : View) (ps qs : List Place) →
-            IsRoom z room.now → WasOpened z u opened ps qs → HasBegun z opened self.old.restarts v →
-            HasHand z v room.now → opened.steps + self.old.turns ≤ v.steps + self.old.left →
-            Fits z u ps self.new room.now qs v }
-    {
         if self.left == 0 {
             self.begin_exit(room, Outcome::Busy);
             return;
         }
-        self.stage = Stage::Trying;
+        self.stage = Stage::Trying(Attempt::new(self.job));
     }
 
     /// The last attempt has ended so: the frame is closed.
@@ -371,16 +316,15 @@ impl Write {
         ensures job { self.new.job ≡ self.old.job }
         ensures turns { self.new.turns ≡ self.old.turns }
         ensures restarts { self.new.restarts ≡ self.old.restarts }
-        ensures outcome { self.new.outcome ≡ outcome }
+        ensures outcome { outcome_in self.new.stage ≡ Some outcome }
         ensures left { (qs : List Place) → steps_left self.new room.now qs ≤ 7 }
-        ensures fits { (z : Sizes) (u opened began v : View) (ps qs : List Place) → IsRoom z room.now →
+        ensures fits { (z : Sizes) (u opened began v : View) (ps qs : List Place) (p : PositionOf) (k : CaseOf) → IsRoom z room.now →
             WasOpened z u opened ps qs → HasBegun z opened self.old.restarts began →
-            HasOutcome z began self.old.job self.old.attempt room.now outcome self.old.left v →
+            OutcomeBy z began self.old.job p k room.now outcome self.old.left v →
             opened.steps + self.old.turns ≤ v.steps + self.old.left → Fits z u ps self.new room.now qs v }
     {
-        self.outcome = outcome;
-        self.exit = Exit::new(gone_by(outcome, &room.change));
-        self.stage = Stage::Exit;
+        let exit = Exit::new(gone_by(outcome, &room.change));
+        self.stage = Stage::Exit { exit, outcome };
     }
 
     /// Makes its steps, stage after stage, as far as nothing stops it.
@@ -418,9 +362,9 @@ impl Write {
             Fits (S.sizes steps.old) u ps self.new room.new (places_of limbo.new) (S.view steps.new) }
     {
         match self.stage {
-            Stage::Trying => self.try_on(steps, room),
-            Stage::Enter | Stage::Exit => self.frame_on(steps, room, limbo),
-            Stage::Ended => {}
+            Stage::Trying(_) => self.try_on(steps, room),
+            Stage::Enter(_) | Stage::Exit { .. } => self.frame_on(steps, room, limbo),
+            Stage::Ended(_) => {}
         }
     }
 
@@ -447,41 +391,42 @@ impl Write {
     #[inline(always)]
     fn frame_asked(&self, room: &Room, limbo: &Limbo) -> Option<Action>
         ensures asks { IfSome result (λ a. asks self.now room.now (places_of limbo.now) ≡ Some a) }
-        ensures framed { IfSome result (λ a. self.now.stage ≢ stages.Trying) }
+        ensures framed { IfSome result (λ a. (t : AttemptOf) → self.now.stage ≢ stages.Trying t) }
         ensures allowed { (z : Sizes) (u v : View) (ps : List Place) → Fits z u ps self.now room.now (places_of limbo.now) v →
             IfSome result (IsActionAllowed z None v) }
     {
-        match self.stage {
-            Stage::Enter => self.enter.next(limbo),
-            Stage::Exit => self.exit.next(&room.stock),
-            Stage::Trying | Stage::Ended => None,
+        match &self.stage {
+            Stage::Enter(enter) => enter.next(limbo),
+            Stage::Exit { exit, .. } => exit.next(&room.stock),
+            Stage::Trying(_) | Stage::Ended(_) => None,
         }
     }
 
     /// Makes the steps of the stage where its attempt stands.
     fn try_on<S: EpochSteps>(&mut self, steps: &mut S, room: &mut Room)
-        requires stage { self.old.stage ≡ stages.Trying }
-        requires turn { HasTurn self.old }
+        requires stage { (t : AttemptOf) × (self.old.stage ≡ stages.Trying t) }
         requires admitted { S.admits steps.old room.old.row.key.items }
-        requires trying { (u : View) × (ps : List Place) × (qs : List Place) × IsRoom (S.sizes steps.old) room.old ×
-            IsTrying (S.sizes steps.old) u ps self.old room.old qs (S.view steps.old) }
+        requires fits { (u : View) × (ps : List Place) × (qs : List Place) ×
+            Fits (S.sizes steps.old) u ps self.old room.old qs (S.view steps.old) }
         ensures only { S.only steps.old steps.new }
         ensures job { self.new.job ≡ self.old.job }
         ensures turns { self.new.turns ≡ self.old.turns }
         ensures key { SameRow room.old room.new }
-        ensures apart { IsApart self.old → IsApart self.new }
+        ensures apart { IsApart self.new }
         ensures going { ended_at self.new ≡ None }
         ensures later { (S.view steps.old).steps ≤ (S.view steps.new).steps }
         ensures left { (qs : List Place) → (S.view steps.new).steps + steps_left self.new room.new qs ≤
-            (S.view steps.old).steps + left_at stages.Trying self.old room.old qs }
-        ensures fits { (u : View) (ps qs : List Place) → IsRoom (S.sizes steps.old) room.old →
-            IsTrying (S.sizes steps.old) u ps self.old room.old qs (S.view steps.old) →
+            (S.view steps.old).steps + steps_left self.old room.old qs }
+        ensures fits { (u : View) (ps qs : List Place) → Fits (S.sizes steps.old) u ps self.old room.old qs (S.view steps.old) →
             Fits (S.sizes steps.old) u ps self.new room.new qs (S.view steps.new) }
     {
+        let Stage::Trying(attempt) = &mut self.stage else {
+            unreachable!()
+        };
         let mut left = self.left;
-        self.attempt.hurry(steps, room, &mut left);
+        attempt.hurry(steps, room, &mut left);
         self.left = left;
-        match self.attempt.ended() {
+        match attempt.ended() {
             None => {}
             Some(ending) => self.conclude(room, ending),
         }
@@ -489,25 +434,26 @@ impl Write {
 
     /// A step of an attempt was made.
     fn try_told(&mut self, room: &mut Room, answer: Answer)
-        requires stage { self.old.stage ≡ stages.Trying }
-        requires turn { HasTurn self.old }
+        requires stage { (t : AttemptOf) × (self.old.stage ≡ stages.Trying t) }
         requires told { (z : Sizes) × (u : View) × (v : View) × (w : View) × (ps : List Place) × (qs : List Place) ×
-            (asked : ActionOf) ×
-            IsRoom z room.old × IsTrying z u ps self.old room.old qs v × (attempt_asks self.old.attempt room.old ≡ Some asked) ×
-            Answers z (deed_at self.old room.old) room.old.change asked answer v w }
+            (asked : ActionOf) × Fits z u ps self.old room.old qs v × (asks self.old room.old qs ≡ Some asked) ×
+            Answers z self.old room.old asked answer v w }
         ensures job { self.new.job ≡ self.old.job }
         ensures turns { self.new.turns ≡ self.old.turns }
         ensures restarts { RestartsBy self.old self.new answer }
         ensures overlaps { OverlapsBy self.old self.new answer }
         ensures key { SameRow room.old room.new }
-        ensures fits { (z : Sizes) (u v w : View) (ps qs : List Place) (asked : ActionOf) → IsRoom z room.old →
-            IsTrying z u ps self.old room.old qs v → attempt_asks self.old.attempt room.old ≡ Some asked →
-            Answers z (deed_at self.old room.old) room.old.change asked answer v w → Fits z u ps self.new room.new qs w }
-        ensures left { (qs : List Place) → steps_left self.new room.new qs < left_at stages.Trying self.old room.old qs }
+        ensures fits { (z : Sizes) (u v w : View) (ps qs : List Place) (asked : ActionOf) → Fits z u ps self.old room.old qs v →
+            asks self.old room.old qs ≡ Some asked → Answers z self.old room.old asked answer v w →
+            Fits z u ps self.new room.new qs w }
+        ensures left { (qs : List Place) → steps_left self.new room.new qs < steps_left self.old room.old qs }
     {
-        self.attempt.told(room, answer);
+        let Stage::Trying(attempt) = &mut self.stage else {
+            unreachable!()
+        };
+        attempt.told(room, answer);
         self.left = self.left.saturating_sub(answer.steps());
-        match self.attempt.ended() {
+        match attempt.ended() {
             None => self.turn(room),
             Some(ending) => self.conclude(room, ending),
         }
@@ -515,17 +461,20 @@ impl Write {
 
     /// The attempt goes on, where turns are left or something is held.
     fn turn(&mut self, room: &Room)
-        requires stage { self.old.stage ≡ stages.Trying }
+        requires stage { (t : AttemptOf) × (self.old.stage ≡ stages.Trying t) }
         ensures job { self.new.job ≡ self.old.job }
         ensures turns { self.new.turns ≡ self.old.turns }
         ensures restarts { self.new.restarts ≡ self.old.restarts }
-        ensures overlaps { self.new.outcome ≡ overlaps → self.old.outcome ≡ overlaps }
-        ensures left { (qs : List Place) → steps_left self.new room.now qs ≤ left_at stages.Trying self.old room.now qs }
-        ensures fits { (z : Sizes) (u v : View) (ps qs : List Place) → IsRoom z room.now →
-            IsTrying z u ps self.old room.now qs v → Fits z u ps self.new room.now qs v }
+        ensures apart { IsApart self.new }
+        ensures left { (qs : List Place) → steps_left self.new room.now qs ≤ steps_left self.old room.now qs }
+        ensures fits { (z : Sizes) (u v : View) (ps qs : List Place) (t : AttemptOf) → self.old.stage ≡ stages.Trying t →
+            IsRoom z room.now → IsTrying z u ps self.old t room.now qs v → Fits z u ps self.new room.now qs v }
     {
+        let Stage::Trying(attempt) = &self.stage else {
+            unreachable!()
+        };
         if self.left == 0 {
-            if self.attempt.is_free() {
+            if attempt.is_free() {
                 self.begin_exit(room, Outcome::Busy);
             }
         }
@@ -538,11 +487,11 @@ impl Write {
         ensures job { self.new.job ≡ self.old.job }
         ensures turns { self.new.turns ≡ self.old.turns }
         ensures restarts { (self.new.restarts ≡ self.old.restarts) ⊎ (ending ≡ anew) }
-        ensures overlaps { self.new.outcome ≡ overlaps → (self.old.outcome ≡ overlaps) ⊎ (ending ≡ attempt_overlaps) }
+        ensures overlaps { outcome_in self.new.stage ≡ Some overlaps → ending ≡ attempt_overlaps }
         ensures left { (qs : List Place) → steps_left self.new room.now qs ≤ ended_left self.old.left ending + 7 }
-        ensures fits { (z : Sizes) (u opened began v : View) (ps qs : List Place) → IsRoom z room.now →
+        ensures fits { (z : Sizes) (u opened began v : View) (ps qs : List Place) (p : PositionOf) (k : CaseOf) → IsRoom z room.now →
             WasOpened z u opened ps qs → HasBegun z opened self.old.restarts began →
-            self.old.attempt.job ≡ self.old.job → EndFits z began self.old.attempt room.now ending v →
+            EndsBy z began self.old.job p k room.now ending v →
             opened.steps + self.old.turns ≤ v.steps + self.old.left → Fits z u ps self.new room.now qs v }
     {
         match outcome_of(self.left, ending) {
@@ -556,27 +505,39 @@ impl Write {
 
     /// A step of the close was made.
     fn exit_told(&mut self, room: &mut Room, limbo: &mut Limbo, answer: Answer)
-        requires stage { self.old.stage ≡ stages.Exit }
+        requires stage { (x : ExitOf) × (o : OutcomeOf) × (self.old.stage ≡ stages.Exit x o) }
         requires told { (z : Sizes) × (u : View) × (v : View) × (w : View) × (ps : List Place) × (asked : ActionOf) ×
-            IsRoom z room.old × IsExiting z u ps self.old room.old (places_of limbo.old) v ×
-            (exit_asks self.old.exit room.old.stock ≡ Some asked) × ActionAnswers z None asked answer v w }
+            Fits z u ps self.old room.old (places_of limbo.old) v × (asks self.old room.old (places_of limbo.old) ≡ Some asked) ×
+            Answers z self.old room.old asked answer v w }
         ensures job { self.new.job ≡ self.old.job }
         ensures turns { self.new.turns ≡ self.old.turns }
         ensures restarts { self.new.restarts ≡ self.old.restarts }
-        ensures refuses { is_refusal self.old.outcome ≡ true → WillRefuse self.new }
-        ensures outcome { self.new.outcome ≡ self.old.outcome }
+        ensures refuses { WillRefuse self.old → WillRefuse self.new }
+        ensures outcome { outcome_in self.new.stage ≡ outcome_in self.old.stage }
         ensures key { SameRow room.old room.new }
-        ensures fits { (z : Sizes) (u v w : View) (ps : List Place) (asked : ActionOf) → IsRoom z room.old →
-            IsExiting z u ps self.old room.old (places_of limbo.old) v → exit_asks self.old.exit room.old.stock ≡ Some asked →
-            ActionAnswers z None asked answer v w → Fits z u ps self.new room.new (places_of limbo.new) w }
-        ensures left { steps_left self.new room.new (places_of limbo.new) < left_at stages.Exit self.old room.old (places_of limbo.old) }
+        ensures fits { (z : Sizes) (u v w : View) (ps : List Place) (asked : ActionOf) →
+            Fits z u ps self.old room.old (places_of limbo.old) v → asks self.old room.old (places_of limbo.old) ≡ Some asked →
+            Answers z self.old room.old asked answer v w → Fits z u ps self.new room.new (places_of limbo.new) w }
+        ensures left { steps_left self.new room.new (places_of limbo.new) < steps_left self.old room.old (places_of limbo.old) }
     {
+        let Stage::Exit { exit, outcome } = &mut self.stage else {
+            unreachable!()
+        };
+        let outcome = *outcome;
         let Room { stock, change, .. } = room;
-        self.exit
-            .told(limbo, stock, gone_by(self.outcome, change), answer);
-        if self.exit.ended() {
-            self.stage = Stage::Ended;
+        exit.told(limbo, stock, gone_by(outcome, change), answer);
+        if exit.ended() {
+            self.stage = Stage::Ended(outcome);
         }
+    }
+}
+
+/// Where a number goes back by the next step of the opening, a search of its pool begins at its word.
+fn note_given(enter: &Enter, room: &mut Room, limbo: &Limbo)
+    ensures { room.new ≡ given (freed_by (enter_asks enter.now (places_of limbo.now))) room.old }
+{
+    if let Some(Action::Free { link }) = enter.next(limbo) {
+        room.stock.start_at(link);
     }
 }
 

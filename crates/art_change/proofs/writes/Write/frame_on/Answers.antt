@@ -1,15 +1,12 @@
 -- The steps are those of the opening, or of the close.
-use Rattle.std.proofs.Common.{◌≡◌, ◌∙◌, None, ⊎_elim, refl, sym, subst, arith}
-use Rattle.art_change.proofs.Steps.{framed}
+use Rattle.std.proofs.Common.{◌≡◌, ◌∙◌, Option, None, Some, ⊎_elim, refl, sym, subst, arith}
+use Rattle.art_change.proofs.Steps.{frame_apart, frame_brings, framed}
 use Rattle.art_change.proofs.SameWrite.{same_still, same_then}
 use Rattle.art_change.proofs.FrameSteps.{frame_one}
-use Rattle.art_attempt.specs.Attempts.{IsOverlapBy}
-use Rattle.art_change.specs.Writes.{IsSameWrite, deed_at}
+use Rattle.art_change.specs.Writes.{IsSameWrite, outcome_in, overlaps_by}
 use Rattle.art_change.specs.declared.writes.Outcome.TheVariants.{Overlaps}
-use Rattle.art_change.specs.declared.writes.Stage.TheVariants.{Trying}
-use Rattle.art_machine.proofs.AnswerKinds.{answers_any}
 use Rattle.art_machine.specs.Acting.{Answers, IsAllowed}
-use Rattle.art_attempt.specs.Asking.{given}
+use Rattle.art_machine.specs.declared.actions.Effects.{Effects}
 use Rattle.art_epoch.specs.Limbo.{places_of}
 use Rattle.art_step.specs.declared.views.Sizes.{Sizes}
 use Rattle.art_change.proofs.writes.Write.frame_on.Goals as goal
@@ -45,7 +42,8 @@ told-requires g c =
       c.in-Some.asked,
       l.invariant.fits q.0 q.1 q.2,
       c.in-Some.ensures.asks,
-      answers_any z (given (deed_at l.self l.room) l.room.change c.in-Some.asked) c.in-Some.asked c.perform-answer.result (g.S.Steps.view l.steps) (g.S.Steps.view c.perform-answer.new.steps)
+      subst (λ (o : Option Effects). Answers z o c.in-Some.asked c.perform-answer.result (g.S.Steps.view l.steps) (g.S.Steps.view c.perform-answer.new.steps))
+          (sym (frame_brings l.room c.in-Some.asked l.self.stage c.in-Some.ensures.framed))
           (subst (λ (y : Sizes). Answers y None c.in-Some.asked c.perform-answer.result (g.S.Steps.view l.steps) (g.S.Steps.view c.perform-answer.new.steps)) l.invariant.sizes c.perform-answer.ensures.row),
     )
 
@@ -64,14 +62,17 @@ loop-asked-preserved g c =
     let m = l.self in
     let e = c.told.ensures in
     let row = subst (λ (y : Sizes). Answers y None c.in-Some.asked c.perform-answer.result v w) i.sizes c.perform-answer.ensures.row in
-    let one = frame_one z c.in-Some.asked c.perform-answer.result v w (framed m l.room (places_of l.limbo) c.in-Some.asked c.in-Some.ensures.framed c.in-Some.ensures.asks) row in
-    let told = answers_any z (given (deed_at m l.room) l.room.change c.in-Some.asked) c.in-Some.asked c.perform-answer.result v w row in
+    let one = frame_one z c.in-Some.asked c.perform-answer.result v w (framed l.room c.in-Some.asked m.stage (places_of l.limbo) c.in-Some.ensures.framed c.in-Some.ensures.asks) row in
+    let told = subst (λ (o : Option Effects). Answers z o c.in-Some.asked c.perform-answer.result v w) (sym (frame_brings l.room c.in-Some.asked m.stage c.in-Some.ensures.framed)) row in
     let here : IsSameWrite m l.room n.self n.room = record {
       job = e.job;
       turns = e.turns;
       key = e.key;
       refuses = e.refuses;
-      apart = λ is over. ⊎_elim (λ (had : m.outcome ≡ Overlaps). is had) (λ (was : (m.stage ≡ Trying) × IsOverlapBy m.attempt c.perform-answer.result). c.in-Some.ensures.framed was.0) (e.overlaps over);
+      apart = λ is over. ⊎_elim
+          (λ (had : outcome_in m.stage ≡ Some Overlaps). is had)
+          (λ (was : overlaps_by m.stage c.perform-answer.result). frame_apart m.stage c.perform-answer.result c.in-Some.ensures.framed was)
+          (e.overlaps over);
     } in
     let later = i.later in
     let left = i.left in

@@ -1,52 +1,91 @@
-use Rattle.std.proofs.Common.{◌∙◌, sym, subst, arith}
-use Rattle.art_change.proofs.Endings.{ends_as}
-use Rattle.art_change.specs.Writes.{IsTrying, StageFits}
-use Rattle.art_change.specs.declared.writes.Stage.{Stage as StageOf}
+use Rattle.std.proofs.Common.{◌≡◌, ◌∙◌, Some, ap, sym, subst, arith}
+use Rattle.art_attempt.specs.Attempts.{EndsBy}
+use Rattle.art_attempt.specs.declared.attempts.Ending.{Ending}
+use Rattle.art_attempt.specs.declared.attempts.Job.{Job}
+use Rattle.art_change.proofs.Endings.{ended_steps, ends_as}
+use Rattle.art_change.proofs.Staged.{fits_at, steps_at}
+use Rattle.art_change.specs.Writes.{IsTrying}
+use Rattle.art_change.specs.declared.writes.Stage.TheVariants.{Trying}
 use Rattle.art_change.specs.declared.writes.Write.{Write}
 use Rattle.art_change.proofs.writes.Write.try_on.Goals as goal
 
 pub returns-in-None-clause-fits : goal.returns-in-None-clause-fits
-returns-in-None-clause-fits g c u ps qs room t =
+returns-in-None-clause-fits g c u ps qs before_it =
     let z = g.S.Steps.sizes c.args.steps.now in
+    let v = g.S.Steps.view c.args.steps.now in
     let w = g.S.Steps.view c.hurry.new.steps in
     let m = c.args.self.now in
-    let fits = c.hurry.ensures.fits t.began t.fits in
+    let k = (fits_at m c.args.room.now (Trying c.in-Trying.attempt) c.in-Trying.is z u ps qs v before_it).0 in
+    let fits = c.hurry.ensures.fits k.began k.fits in
     let none = sym c.ended.ensures.at ∙ c.in-None.is in
-    let next : Write = record m { attempt = c.hurry.new.self; left = c.hurry.new.left } in
-    let before = t.counted in
+    let before = k.counted in
     let more = c.hurry.ensures.counted in
-    let on : IsTrying z u ps next c.hurry.new.room qs w = record {
-      opened = t.opened;
-      began = t.began;
-      frame = t.frame;
-      begun = t.begun;
-      job = c.hurry.ensures.kept.job ∙ t.job;
-      fits = fits;
-      going = none;
-      counted = omega (arith, before, more);
-    } in
     record {
       room = record { sizes = fits.room.sizes; key = fits.room.key };
-      stage = subst (λ (s : StageOf). StageFits z u ps s next c.hurry.new.room qs w) (sym c.requires.stage) (on, λ free. c.hurry.ensures.turn free none);
+      stage = (
+        record {
+          opened = k.opened;
+          began = k.began;
+          frame = k.frame;
+          begun = k.begun;
+          job = c.hurry.ensures.kept.job ∙ k.job;
+          fits = fits;
+          going = none;
+          counted = omega (arith, before, more);
+        },
+        λ free. c.hurry.ensures.turn free none,
+      );
     }
 
 pub returns-in-Some-clause-fits : goal.returns-in-Some-clause-fits
-returns-in-Some-clause-fits g c u ps qs room t =
+returns-in-Some-clause-fits g c u ps qs before_it =
     let z = g.S.Steps.sizes c.args.steps.now in
+    let v = g.S.Steps.view c.args.steps.now in
     let w = g.S.Steps.view c.hurry.new.steps in
     let m = c.args.self.now in
-    let fits = c.hurry.ensures.fits t.began t.fits in
-    let before = t.counted in
+    let t = c.hurry.new.self in
+    let k = (fits_at m c.args.room.now (Trying c.in-Trying.attempt) c.in-Trying.is z u ps qs v before_it).0 in
+    let fits = c.hurry.ensures.fits k.began k.fits in
+    let before = k.counted in
     let more = c.hurry.ensures.counted in
-    c.conclude.ensures.fits z u t.opened t.began w ps qs fits.room t.frame t.begun (c.hurry.ensures.kept.job ∙ t.job)
-    (ends_as z t.began c.hurry.new.room w c.hurry.new.self c.in-Some.ending fits (sym c.ended.ensures.at ∙ c.in-Some.is))
+    let ends = ends_as z k.began c.hurry.new.room w t c.in-Some.ending fits (sym c.ended.ensures.at ∙ c.in-Some.is) in
+    c.conclude.ensures.fits z u k.opened k.began w ps qs t.position t.case fits.room k.frame k.begun
+    (subst (λ (j : Job). EndsBy z k.began j t.position t.case c.hurry.new.room c.in-Some.ending w) (c.hurry.ensures.kept.job ∙ k.job) ends)
     (omega (arith, before, more))
 
 pub hurry-requires-clause-fits : goal.hurry-requires-clause-fits
-hurry-requires-clause-fits g c = let t = c.requires.trying in (t.4.began, t.4.fits)
+hurry-requires-clause-fits g c =
+    let q = c.requires.fits in
+    let k = (fits_at c.args.self.now c.args.room.now (Trying c.in-Trying.attempt) c.in-Trying.is (g.S.Steps.sizes c.args.steps.now) q.0 q.1 q.2 (g.S.Steps.view c.args.steps.now) q.3).0 in
+    (k.began, k.fits)
+
+pub hurry-requires-clause-turn : goal.hurry-requires-clause-turn
+hurry-requires-clause-turn g c =
+    let q = c.requires.fits in
+    (fits_at c.args.self.now c.args.room.now (Trying c.in-Trying.attempt) c.in-Trying.is (g.S.Steps.sizes c.args.steps.now) q.0 q.1 q.2 (g.S.Steps.view c.args.steps.now) q.3).1
 
 pub hurry-requires-clause-short : goal.hurry-requires-clause-short
-hurry-requires-clause-short g c = c.requires.trying.3.key.short
+hurry-requires-clause-short g c = c.requires.fits.3.room.key.short
 
 pub hurry-requires-clause-going : goal.hurry-requires-clause-going
-hurry-requires-clause-going g c = c.requires.trying.4.going
+hurry-requires-clause-going g c =
+    let q = c.requires.fits in
+    (fits_at c.args.self.now c.args.room.now (Trying c.in-Trying.attempt) c.in-Trying.is (g.S.Steps.sizes c.args.steps.now) q.0 q.1 q.2 (g.S.Steps.view c.args.steps.now) q.3).0.going
+
+pub returns-in-None-clause-left : goal.returns-in-None-clause-left
+returns-in-None-clause-left g c qs =
+    let few = c.hurry.ensures.left in
+    let same = steps_at c.args.self.now c.args.room.now (Trying c.in-Trying.attempt) c.in-Trying.is qs in
+    omega (arith, few, same)
+
+pub returns-in-Some-clause-left : goal.returns-in-Some-clause-left
+returns-in-Some-clause-left g c qs =
+    let few = c.hurry.ensures.left in
+    let ended = ended_steps c.hurry.new.left c.hurry.new.self c.in-Some.ending (sym c.ended.ensures.at ∙ c.in-Some.is) in
+    let less = c.conclude.ensures.left qs in
+    let same = steps_at c.args.self.now c.args.room.now (Trying c.in-Trying.attempt) c.in-Trying.is qs in
+    omega (arith, few, ended, less, same)
+
+pub returns-in-Some-clause-apart : goal.returns-in-Some-clause-apart
+returns-in-Some-clause-apart g c is =
+    c.hurry.ensures.not_overlaps (sym c.ended.ensures.at ∙ (c.in-Some.is ∙ ap (λ (e : Ending). Some e) (c.conclude.ensures.overlaps is)))
