@@ -12,8 +12,7 @@ use Rattle.art_attempt.specs.Attempts.{EndsSo, EndsWithin, HasHand, IsValidating
 use Rattle.art_attempt.specs.Cases.{HasLeaf, IsLockedBy, LocksChecked, cells_of}
 use Rattle.art_attempt.specs.Rooms.{number_for}
 use Rattle.art_attempt.specs.Trying.{HasSpent, IsKey, IsLater, StillTries, StoodAtCheck, WasChecked}
-use Rattle.art_attempt.specs.declared.attempts.Attempt.{Attempt}
-use Rattle.art_attempt.specs.declared.attempts.Stage.{Stage}
+use Rattle.art_attempt.specs.declared.attempts.Job.{Job}
 use Rattle.art_attempt.specs.declared.cases.Case.{Case}
 use Rattle.art_attempt.specs.declared.cases.Case.TheVariants.{NewLeaf, DropLeaf, Shrink, MergeLeaf, MergeNode, Torn}
 use Rattle.art_attempt.specs.declared.rooms.Room.{Room}
@@ -115,19 +114,16 @@ validate_reads z k t o (checks.Check role) read_set lower u v fits = fits.0.stan
 validate_reads z k t o (checks.Ended Unchanged) read_set lower u v fits = fits.0.stands.reads
 validate_reads z k t o (checks.Ended Changed) read_set lower u v fits = fits
 
-module _ (z : Sizes) (u : View) (m : Attempt) (s : Validate) (r : Room) (v : View) (h : IsValidating z u m s r v) where
+module _ (z : Sizes) (u : View) (j : Job) (t : Position) (c : Case) (s : Validate) (r : Room) (v : View) (h : IsValidating z u j t c s r v) where
   abbrev k : List ℕ
   k = r.row.key.items
 
-  abbrev t : Position
-  t = m.position
-
   abbrev o : Cells
-  o = cells_of m.case t.verdict
+  o = cells_of c t.verdict
 
   -- it goes on
   pub validating_on : (w : View) (next : Validate) (read_set : ReadSet) (lower : List (Option ℕ)) → v.steps ≤ w.steps → StayFound v w → NodeStays t r.read_set read_set → validate.Fits z k t o next read_set lower h.early w
-      → IsValidating z u m next (record r { read_set = read_set; lower = lower }) w
+      → IsValidating z u j t c next (record r { read_set = read_set; lower = lower }) w
   validating_on w next read_set lower more found node fits =
       let before = h.later.steps in
       let same = fits.failures in
@@ -139,13 +135,9 @@ module _ (z : Sizes) (u : View) (m : Attempt) (s : Validate) (r : Room) (v : Vie
         spent = h.spent;
         has = h.has;
         case = h.case;
-        known = known_on z u t r read_set lower v w found node.stays node.whole m.case h.known;
+        known = known_on z u t r read_set lower v w found node.stays node.whole c h.known;
         fits = fits;
       }
-
-  -- at whatever stage
-  pub validating_at : (g : Stage) → IsValidating z u (record m { stage = g }) s r v
-  validating_at g = record { early = h.early; base = h.base; later = h.later; spent = h.spent; has = h.has; case = h.case; known = h.known; fits = h.fits }
 
   pub validating_so : EndsWithin z u 22500 r v
   validating_so = reading_so z u h.early h.base r v h.later h.has (validate_reads z k t o s r.read_set r.lower h.early v h.fits.stage) 22500
@@ -159,15 +151,12 @@ module _ (z : Sizes) (u : View) (m : Attempt) (s : Validate) (r : Room) (v : Vie
 
 -- ---- all words were known, and each cell was checked
 
-module _ (z : Sizes) (u : View) (m : Attempt) (r : Room) (v : View) (h : IsValidating z u m (checks.Ended Unchanged) r v) where
+module _ (z : Sizes) (u : View) (j : Job) (at : Position) (case : Case) (r : Room) (v : View) (h : IsValidating z u j at case (checks.Ended Unchanged) r v) where
   abbrev key : List ℕ
   key = r.row.key.items
 
-  abbrev at : Position
-  at = m.position
-
   abbrev cells : Cells
-  cells = cells_of m.case at.verdict
+  cells = cells_of case at.verdict
 
   knows : Knows z key at cells r.read_set r.lower h.early v
   knows = h.fits.stage.0
@@ -176,7 +165,7 @@ module _ (z : Sizes) (u : View) (m : Attempt) (r : Room) (v : View) (h : IsValid
   done = h.fits.stage.1
 
   pub validated_so : EndsWithin z u 22500 r v
-  validated_so = validating_so z u m (checks.Ended Unchanged) r v h
+  validated_so = validating_so z u j at case (checks.Ended Unchanged) r v h
 
   pub validated_standing : IsStanding z key at r.read_set v
   validated_standing = knows.stands.standing
@@ -196,16 +185,16 @@ module _ (z : Sizes) (u : View) (m : Attempt) (r : Room) (v : View) (h : IsValid
   either_checked : cells.above ≡ true → (x : Stamp) → IsEitherAt at x → WasChecked u x v
   either_checked wide x = ⊎_elim (node_checked x) (λ (q : (a : CellAbove) × (at.above ≡ Some a) × (x ≡ a.stamp)). above_checked wide q.0 q.1 x q.2)
 
-  new_checked : m.case ≡ NewLeaf → (x : Stamp) → IsLockedAt at x → WasChecked u x v
-  new_checked case x = ⊎_elim (node_checked x)
-      (λ (q : (a : CellAbove) × (at.above ≡ Some a) × ((needs_of at.verdict).above ≡ true) × (x ≡ a.stamp)). above_checked (ap (λ (c : Case). (cells_of c at.verdict).above) case ∙ q.2) q.0 q.1 x q.3)
+  new_checked : case ≡ NewLeaf → (x : Stamp) → IsLockedAt at x → WasChecked u x v
+  new_checked is x = ⊎_elim (node_checked x)
+      (λ (q : (a : CellAbove) × (at.above ≡ Some a) × ((needs_of at.verdict).above ≡ true) × (x ≡ a.stamp)). above_checked (ap (λ (c : Case). (cells_of c at.verdict).above) is ∙ q.2) q.0 q.1 x q.3)
 
-  any_checked : (l : LowerNode) → m.case ≡ MergeNode l → (x : Stamp) → IsAnyAt at l x → WasChecked u x v
-  any_checked l case x = ⊎_elim (either_checked (ap (λ (c : Case). (cells_of c at.verdict).above) case) x)
+  any_checked : (l : LowerNode) → case ≡ MergeNode l → (x : Stamp) → IsAnyAt at l x → WasChecked u x v
+  any_checked l is x = ⊎_elim (either_checked (ap (λ (c : Case). (cells_of c at.verdict).above) is) x)
       (λ (same : x ≡ l.stamp). subst (λ (y : Stamp). WasChecked u y v) (sym same)
-      (was l.stamp (done.checked Lower l.stamp (ap (λ (c : Case). stamp_of at (cells_of c at.verdict) Lower) case))))
+      (was l.stamp (done.checked Lower l.stamp (ap (λ (c : Case). stamp_of at (cells_of c at.verdict) Lower) is))))
 
-  each_checked : (c : Case) → m.case ≡ c → (x : Stamp) → IsLockedBy c at x → WasChecked u x v
+  each_checked : (c : Case) → case ≡ c → (x : Stamp) → IsLockedBy c at x → WasChecked u x v
   each_checked NewLeaf is x locked = new_checked is x locked
   each_checked DropLeaf is x locked = node_checked x locked
   each_checked (Shrink layout) is x locked = either_checked (ap (λ (c : Case). (cells_of c at.verdict).above) is) x locked
@@ -214,8 +203,8 @@ module _ (z : Sizes) (u : View) (m : Attempt) (r : Room) (v : View) (h : IsValid
   each_checked Torn is x locked = absurd locked
 
   -- each cell that a plan of this case locks was checked in this attempt
-  pub validated_locks : (c : Case) → m.case ≡ c → (change : Change) → LocksOnly (IsLockedBy c at) change → LocksOnly (LocksChecked u c at v) change
-  validated_locks c is change only i x there = let by = only i x there in record { by = by; checked = each_checked c is x.stamp by }
+  pub validated_locks : (change : Change) → LocksOnly (IsLockedBy case at) change → LocksOnly (LocksChecked u case at v) change
+  validated_locks change only i x there = let by = only i x there in record { by = by; checked = each_checked case refl x.stamp by }
 
   vouched : (x : Stamp) → CheckedSince z key at cells r.read_set r.lower h.early x v → WasVouched z key at r.read_set x
   vouched x checked = was_vouched z key at cells r.read_set r.lower h.early x v checked
@@ -227,11 +216,11 @@ module _ (z : Sizes) (u : View) (m : Attempt) (r : Room) (v : View) (h : IsValid
   above_seen wide a is = let there = over_stamp at cells a wide is in (vouched a.stamp (done.checked Above a.stamp there), done.words Above a.stamp there)
 
   -- all that is written was seen: of an insert
-  pub seen_new : m.case ≡ NewLeaf → IsSeenWhole z key at r.read_set
-  seen_new case = record {
+  pub seen_new : case ≡ NewLeaf → IsSeenWhole z key at r.read_set
+  seen_new is = record {
     vouched = seen_key.0;
     whole = seen_key.1;
-    above = λ a is wants. above_seen (ap (λ (c : Case). (cells_of c at.verdict).above) case ∙ wants) a is;
+    above = λ a there wants. above_seen (ap (λ (c : Case). (cells_of c at.verdict).above) is ∙ wants) a there;
   }
 
   -- and of a removal
@@ -246,7 +235,7 @@ module _ (z : Sizes) (u : View) (m : Attempt) (r : Room) (v : View) (h : IsValid
     gone_standing = subst (λ (a : ArrayVec ℕ). IsStanding z a.items at r.read_set v) (sym leaf.key) validated_standing
 
   -- with the node below
-  module _ (l : LowerNode) (is : m.case ≡ MergeNode l) where
+  module _ (l : LowerNode) (is : case ≡ MergeNode l) where
     below_is : cells.lower ≡ Some l
     below_is = ap (λ (c : Case). (cells_of c at.verdict).lower) is
 

@@ -5,18 +5,17 @@ use Rattle.std.specs.Option.{option_map}
 use Rattle.arrayvec.specs.ArrayVec.{ArrayVec}
 use Rattle.art_attempt.proofs.Chosen.{goes_later, goes_since, leaf_effects, leaf_way}
 use Rattle.art_attempt.proofs.Tries.{event_since, limbo_committed, rest_committed, still_fails, still_later, stock_fails}
-use Rattle.art_attempt.specs.Attempts.{EndFits, EndsSo, GoesBy, HasMade, HasWritten, MayMake, given_up}
+use Rattle.art_attempt.specs.Attempts.{EndsBy, EndsSo, HasMade, HasWritten, MayMake, given_up}
 use Rattle.art_attempt.specs.Cases.{HasLeaf, IsCaseOf, IsTold, LocksChecked, leaves_by, locks_of, made_by}
 use Rattle.art_attempt.specs.Rooms.{spent_by}
 use Rattle.art_attempt.specs.Trying.{StoodAtCheck}
-use Rattle.art_attempt.specs.declared.attempts.Attempt.{Attempt}
-use Rattle.art_attempt.specs.declared.attempts.Stage.{Stage}
 use Rattle.art_attempt.specs.declared.attempts.Job.{Job}
 use Rattle.art_attempt.specs.declared.attempts.Job.TheVariants.{Insert, Remove}
 use Rattle.art_attempt.specs.declared.cases.Case.{Case}
 use Rattle.art_attempt.specs.declared.rooms.Room.{Room}
 use Rattle.art_cell.specs.declared.cells.Link.TheVariants.{Node as node}
 use Rattle.art_cell.specs.declared.cells.Node.{Node}
+use Rattle.art_find.specs.declared.findings.Position.{Position}
 use Rattle.art_epoch.proofs.Stocked.{linked_are_in, stock_commits}
 use Rattle.art_epoch.specs.Stocks.{IsIn}
 use Rattle.art_machine.specs.declared.actions.Effects.{Effects}
@@ -44,26 +43,26 @@ use Rattle.art_step.specs.declared.views.View.{View}
 
 -- ---- a plan for a leaf that goes
 
-module _ (z : Sizes) (u : View) (m : Attempt) (r : Room) (v : View) (job : m.job ≡ Remove) (leaf : HasLeaf m.position r) (stood : StoodAtCheck z u r.row.key.items m.position r.read_set v) where
+module _ (z : Sizes) (u : View) (j : Job) (t : Position) (r : Room) (v : View) (job : j ≡ Remove) (leaf : HasLeaf t r) (stood : StoodAtCheck z u r.row.key.items t r.read_set v) where
   -- in this case
-  module _ (c : Case) (is : m.case ≡ c) (goes : IsCaseOf Remove c) (effects : r.change.effects ≡ remove_effects r.gone (leaves_by c m.position)) where
+  module _ (c : Case) (goes : IsCaseOf Remove c) (effects : r.change.effects ≡ remove_effects r.gone (leaves_by c t)) where
     none_comes : (l : ℕ) → r.change.effects.leaf ≡ Some l → r.stock.leaf ≡ Some l
     none_comes l at = let no : None ≡ Some l = sym (ap (λ (e : Effects). e.leaf) effects) ∙ at in cc
 
-    removes : r.change.effects.deed ≡ made_by m.job r.row r.gone
+    removes : r.change.effects.deed ≡ made_by j r.row r.gone
     removes = ap (λ (e : Effects). e.deed) effects ∙ (ap (λ (k : ArrayVec ℕ). Done (act.Remove k) (reply.Removed r.gone.value)) leaf.key ∙ sym (ap (λ (j : Job). made_by j r.row r.gone) job))
 
-    pub leaf_may : IsPlanned z v r.change → IsTold z c m.position r.read_set r.gone u v → targets r.change ≡ locks_of c → LocksOnly (LocksChecked u c m.position v) r.change → MayMake z u m r v
+    pub leaf_may : IsPlanned z v r.change → IsTold z c t r.read_set r.gone u v → targets r.change ≡ locks_of c → LocksOnly (LocksChecked u c t v) r.change → MayMake z u j t c r v
     leaf_may planned told locks each = record {
-      case = subst (λ (j : Job). IsCaseOf j m.case) (sym job) (subst (IsCaseOf Remove) (sym is) goes);
+      case = subst (λ (j : Job). IsCaseOf j c) (sym job) goes;
       planned = planned;
       leaf = none_comes;
       deed = removes;
-      goes = subst (λ (d : Case). GoesBy z u m.position d r v) (sym is) (record {
-        told = leaf_way z u m.position r v c goes (record { leaf = leaf; stood = stood; told = told; locks = locks });
-        effects = effects ∙ sym (leaf_effects z u m.position r v c goes);
-      });
-      locks = subst (λ (d : Case). LocksOnly (LocksChecked u d m.position v) r.change) (sym is) each;
+      goes = record {
+        told = leaf_way z u t r v c goes (record { leaf = leaf; stood = stood; told = told; locks = locks });
+        effects = effects ∙ sym (leaf_effects z u t r v c goes);
+      };
+      locks = each;
     }
 
 -- what is committed is of the row's key
@@ -73,32 +72,17 @@ made_admitted A Remove row gone is = is
 
 -- ---- it is made
 
-module _ (z : Sizes) (u : View) (m : Attempt) (s : Apply) (r : Room) (v : View) (h : HasMade z u m s r v) where
-  -- at whatever stage it is said
-  pub making_at : (e : Stage) → HasMade z u (record m { stage = e }) s r v
-  making_at e = record {
-    early = h.early;
-    base = h.base;
-    later = h.later;
-    spent = h.spent;
-    case = h.case;
-    locks = h.locks;
-    goes = h.goes;
-    has = h.has;
-    plain = h.plain;
-    leaf = h.leaf;
-    deed = h.deed;
-    fits = h.fits;
-  }
-
+module _ (z : Sizes) (u : View) (j : Job) (s : Apply) (r : Room) (v : View) (h : HasMade z u j s r v) where
   -- it goes on
-  pub made_on : (w : View) (next : Apply) → KeepsCheck v w → apply.Fits z r.change next h.early w → HasMade z u m next r w
+  pub made_on : (w : View) (next : Apply) → KeepsCheck v w → apply.Fits z r.change next h.early w → HasMade z u j next r w
   made_on w next keeps fits =
       let before = h.later.steps in
       let failed = h.later.failures in
       let more = keeps.steps in
       let again = keeps.failures in
       record {
+        position = h.position;
+        chosen = h.chosen;
         early = h.early;
         base = h.base;
         later = record { steps = omega (arith, before, more); failures = omega (arith, failed, again) };
@@ -108,7 +92,7 @@ module _ (z : Sizes) (u : View) (m : Attempt) (s : Apply) (r : Room) (v : View) 
             let lock = h.locks i x at in
             let done = lock.checked.done in
             record { by = lock.by; checked = record { step = lock.checked.step; after = lock.checked.after; done = omega (arith, done, more); found = keeps.found _ lock.checked.found } };
-        goes = goes_later z u m.position m.case r v w keeps h.goes;
+        goes = goes_later z u h.position h.chosen r v w keeps h.goes;
         has = h.has;
         plain = h.plain;
         leaf = h.leaf;
@@ -121,15 +105,15 @@ module _ (z : Sizes) (u : View) (m : Attempt) (s : Apply) (r : Room) (v : View) 
     over = (ends_as z h.early v r.change s made h.fits is).0
 
     -- it is made
-    pub change_written : made ≡ Ok tt → HasWritten z u m.job m.position m.case (record r { stock = spent_by r.change r.stock }) v
+    pub change_written : made ≡ Ok tt → HasWritten z u j h.position h.chosen (record r { stock = spent_by r.change r.stock }) v
     change_written ok =
         let done = over.done tt ok in
         let nodes : (n : Node) → node_made r.change ≡ Some n → IsIn r.stock (node n) =
         λ n at. let hand = (h.fits.planned.new false n at).hand in subst (IsIn r.stock) hand.2 (h.has.only hand.0 hand.1) in
         record {
           case = h.case;
-          event = event_since u h.early h.base v (made_by m.job r.row r.gone) (subst (λ (d : Deed). MakesEvent h.early v d) h.deed done.event);
-          goes = goes_since z u m.position u (record r { stock = spent_by r.change r.stock }) r.stock v v (omega arith) (omega arith) (λ x there. there) refl m.case h.goes;
+          event = event_since u h.early h.base v (made_by j r.row r.gone) (subst (λ (d : Deed). MakesEvent h.early v d) h.deed done.event);
+          goes = goes_since z u h.position u (record r { stock = spent_by r.change r.stock }) r.stock v v (omega arith) (omega arith) (λ x there. there) refl h.chosen h.goes;
           pins = done.pins;
           limbo = limbo_committed u h.early h.base v r.change done over.free;
           once = done.once;
@@ -140,7 +124,7 @@ module _ (z : Sizes) (u : View) (m : Attempt) (s : Apply) (r : Room) (v : View) 
         }
 
     -- it was given up
-    pub change_given_up : (e : UpgradeFault) → made ≡ Err e → EndFits z u m r (given_up e) v
+    pub change_given_up : (e : UpgradeFault) → made ≡ Err e → EndsBy z u j h.position h.chosen r (given_up e) v
     change_given_up e err = by_fault e (over.failed e err)
       where
         so : (f : UpgradeFault) → HasFailed h.early r.change f v → EndsSo z u r v
@@ -154,7 +138,7 @@ module _ (z : Sizes) (u : View) (m : Attempt) (s : Apply) (r : Room) (v : View) 
           has = stock_fails z r.row.key.items r.row.value h.early v r.stock r.change f failed h.has;
         }
 
-        by_fault : (f : UpgradeFault) → HasFailed h.early r.change f v → EndFits z u m r (given_up f) v
+        by_fault : (f : UpgradeFault) → HasFailed h.early r.change f v → EndsBy z u j h.position h.chosen r (given_up f) v
         by_fault (fault.Changed c) failed =
             let more = failed.fails.3 in
             let before = h.base.later.failures in

@@ -6,14 +6,17 @@ use Rattle.art_attempt.proofs.Given.{ask_looks, look_once, look_row, made_row, p
 use Rattle.art_attempt.proofs.Asked.{if_some, naming_asks_look, reads_look, supply_asks_supply, validate_asks_look}
 use Rattle.art_make.proofs.Keeping.{asks_made}
 use Rattle.art_attempt.specs.Asking.{Answers, given}
-use Rattle.art_attempt.specs.Attempts.{Fits, StageFits, asks, asks_at, deed_at}
+use Rattle.art_attempt.specs.Attempts.{Fits, PartFits, StageFits, asks, asks_at, deed_at, deed_by, part_asks}
 use Rattle.art_attempt.specs.Cases.{cells_of, demand_of, made_by}
 use Rattle.art_attempt.specs.declared.attempts.Attempt.{Attempt}
+use Rattle.art_attempt.specs.declared.attempts.Part.{Part}
+use Rattle.art_attempt.specs.declared.attempts.Part.TheVariants as part
 use Rattle.art_attempt.specs.declared.attempts.Stage.{Stage}
 use Rattle.art_attempt.specs.declared.attempts.Stage.TheVariants as stage
 use Rattle.art_attempt.specs.declared.rooms.Room.{Room}
 use Rattle.art_cell.specs.declared.cells.Cell.{Cell}
 use Rattle.art_cell.specs.declared.layouts.Pool.{Pool}
+use Rattle.art_find.specs.declared.findings.Position.{Position}
 use Rattle.art_epoch.specs.Taking as taking
 use Rattle.art_epoch.specs.declared.taking.Search.{Search}
 use Rattle.art_epoch.specs.declared.taking.Search.TheVariants.{Looking, Clearing, Took}
@@ -86,13 +89,16 @@ module _ (z : Sizes) (v w : View) where
 -- ---- of an attempt
 
 module _ (z : Sizes) (u : View) (m : Attempt) (r : Room) (v w : View) (a : Action) (answer : Answer) (row : Answers z (deed_at m r) r.change a answer v w) where
+  part_made : (t : Position) (p : Part) → PartFits z u m.job t p r v → part_asks p t r ≡ Some a → w.steps ≡ v.steps + steps_in answer
+  part_made t (part.Reserve c s) fits is =
+      supply_made z v w (deed_at m r) r.change a answer row (demand_of z c t.verdict) r.row.key.items r.row.value r.stock fits.0.early s fits.0.fits is
+  part_made t (part.Validate c s) fits is = look_made z v w (deed_at m r) r.change a answer row (validate_asks_look t (cells_of c t.verdict) s a is)
+  part_made t (part.Reading q) fits is = look_made z v w (deed_at m r) r.change a answer row (reads_look t.stamp q a is)
+  part_made t (part.Naming byte n s) fits is = look_made z v w (deed_at m r) r.change a answer row (naming_asks_look t s a is)
+
   made_at : (s : Stage) → StageFits z u s m r v → asks_at s m r ≡ Some a → w.steps ≡ v.steps + steps_in answer
-  made_at stage.Finding fits is = look_made z v w (deed_at m r) r.change a answer row (ask_looks z (deed_at m r) v a (finding_allowed z u m r v fits a is))
-  made_at (stage.Reserve s) fits is =
-      supply_made z v w (deed_at m r) r.change a answer row (demand_of z m.case m.position.verdict) r.row.key.items r.row.value r.stock fits.0.early s fits.0.fits is
-  made_at (stage.Validate s) fits is = look_made z v w (deed_at m r) r.change a answer row (validate_asks_look m.position (cells_of m.case m.position.verdict) s a is)
-  made_at (stage.Reading q) fits is = look_made z v w (deed_at m r) r.change a answer row (reads_look m.position.stamp q a is)
-  made_at (stage.Naming byte n s) fits is = look_made z v w (deed_at m r) r.change a answer row (naming_asks_look m.position s a is)
+  made_at (stage.Finding f) fits is = look_made z v w (deed_at m r) r.change a answer row (ask_looks z (deed_by m.job f r) v a (finding_allowed z u m.job f r v fits a is))
+  made_at (stage.Placed t p) fits is = part_made t p fits is
   made_at (stage.Apply s) fits is = change_made z v w (deed_at m r) r.change a answer row fits.0.early s fits.0.fits is
   made_at (stage.Ended e) fits is = absurd (cc)
 
@@ -102,12 +108,15 @@ module _ (z : Sizes) (u : View) (m : Attempt) (r : Room) (v w : View) (a : Actio
 -- ---- what is committed
 
 module _ (z : Sizes) (u : View) (m : Attempt) (r : Room) (v : View) (c : Cell) (b : Bool) where
+  no_part : (t : Position) (p : Part) → part_asks p t r ≡ Some (Commit c b) → ⊥
+  no_part t (part.Reserve d s) is = supply_asks_supply r.row.key.items r.row.value r.stock s (Commit c b) is
+  no_part t (part.Reading q) is = reads_look t.stamp q (Commit c b) is
+  no_part t (part.Validate d s) is = validate_asks_look t (cells_of d t.verdict) s (Commit c b) is
+  no_part t (part.Naming byte n s) is = naming_asks_look t s (Commit c b) is
+
   deed_made : (s : Stage) → StageFits z u s m r v → asks_at s m r ≡ Some (Commit c b) → r.change.effects.deed ≡ made_by m.job r.row r.gone
-  deed_made stage.Finding fits is = absurd (ask_looks z (deed_at m r) v (Commit c b) (finding_allowed z u m r v fits (Commit c b) is))
-  deed_made (stage.Reserve s) fits is = absurd (supply_asks_supply r.row.key.items r.row.value r.stock s (Commit c b) is)
-  deed_made (stage.Reading q) fits is = absurd (reads_look m.position.stamp q (Commit c b) is)
-  deed_made (stage.Validate s) fits is = absurd (validate_asks_look m.position (cells_of m.case m.position.verdict) s (Commit c b) is)
-  deed_made (stage.Naming byte n s) fits is = absurd (naming_asks_look m.position s (Commit c b) is)
+  deed_made (stage.Finding f) fits is = absurd (ask_looks z (deed_by m.job f r) v (Commit c b) (finding_allowed z u m.job f r v fits (Commit c b) is))
+  deed_made (stage.Placed t p) fits is = absurd (no_part t p is)
   deed_made (stage.Apply s) fits is = fits.0.deed
   deed_made (stage.Ended e) fits is = cc
 

@@ -7,15 +7,15 @@ use Rattle.art_attempt.proofs.Steps.{cell_fails}
 use Rattle.art_attempt.proofs.LastCheck.{check_is, stood_then}
 use Rattle.art_attempt.proofs.Tries.{event_since, later_then, rest_told, still_later, still_reads, stock_reads}
 use Rattle.art_attempt.specs.Asking.{MayAsk}
-use Rattle.art_attempt.specs.Attempts.{EndFits, EndsSo, EndsWithin, HasSettled, IsFinding, WasPlaced, asks_place, check_as, check_of, deed_at, entered_by, finding_asks, present}
+use Rattle.art_attempt.specs.Attempts.{EndsBy, EndsSo, EndsWithin, HasSettled, IsFinding, WasPlaced, asks_place, check_as, check_of, deed_by, entered_by, finding_asks, present}
 use Rattle.art_attempt.specs.Attempts.{settled_by, settled_of, settles, told_as, value_found}
 use Rattle.art_attempt.specs.Cases.{ComesThere}
 use Rattle.art_attempt.specs.Trying.{HasSpent, IsCheckOf, IsLater, StoodAtCheck}
 use Rattle.art_attempt.specs.declared.attempts.Ending.{Ending}
 use Rattle.art_attempt.specs.declared.attempts.Ending.TheVariants.{Present, Overlaps as overlaps}
-use Rattle.art_attempt.specs.declared.attempts.Attempt.{Attempt}
 use Rattle.art_attempt.specs.declared.attempts.Job.{Job}
 use Rattle.art_attempt.specs.declared.attempts.Job.TheVariants.{Insert, Remove}
+use Rattle.art_attempt.specs.declared.cases.Case.TheVariants.{NewLeaf}
 use Rattle.art_attempt.specs.declared.rooms.Room.{Room}
 use Rattle.art_cell.specs.declared.cells.Link.{Link}
 use Rattle.art_cell.specs.declared.cells.Link.TheVariants.{Leaf as leaf, Node as node}
@@ -325,19 +325,19 @@ pub within_so : (z : Sizes) (u : View) (n : ℕ) (r : Room) (v : View) → n ≤
 within_so z u n r v fewer so = within_more z u n 23100 r v fewer so
 
 -- until a place is settled few steps were made
-finding_few : (z : Sizes) (u : View) (m : Attempt) (r : Room) (v : View) → length r.row.key.items ≤ 64 → IsFinding z u m r v → HasSpent z u 1200 v
-finding_few z u m r v short f limited =
-    let few = few_steps z r.row.key.items (settled_of m.job r.row) m.finding.descent.depth m.finding.descent.stage f.early v short f.going f.fits.descent in
+finding_few : (z : Sizes) (u : View) (j : Job) (m : Finding) (r : Room) (v : View) → length r.row.key.items ≤ 64 → IsFinding z u j m r v → HasSpent z u 1200 v
+finding_few z u j m r v short f limited =
+    let few = few_steps z r.row.key.items (settled_of j r.row) m.descent.depth m.descent.stage f.early v short f.going f.fits.descent in
     let spent = f.spent limited in
     omega (arith, few, spent)
 
-module _ (z : Sizes) (u : View) (m : Attempt) (r : Room) (v w : View) (short : length r.row.key.items ≤ 64) (f : IsFinding z u m r v) (later : IsLater v w) (one : w.steps ≤ v.steps + 1) where
+module _ (z : Sizes) (u : View) (j : Job) (m : Finding) (r : Room) (v w : View) (short : length r.row.key.items ≤ 64) (f : IsFinding z u j m r v) (later : IsLater v w) (one : w.steps ≤ v.steps + 1) where
   past : IsLater f.early w
   past = later_then f.early v w f.later later
 
   finding_spent : HasSpent z u 1201 w
   finding_spent limited =
-      let spent = finding_few z u m r v short f limited in
+      let spent = finding_few z u j m r v short f limited in
       let more = later.failures in
       omega (arith, spent, one, more)
 
@@ -349,7 +349,7 @@ module _ (z : Sizes) (u : View) (m : Attempt) (r : Room) (v w : View) (short : l
     has = stock_reads z r.row.key.items r.row.value f.early w r.stock only f.has;
   }
 
-  module _ (t : Position) (s : StandsThere z r.row.key.items m.finding r.read_set f.early v t) where
+  module _ (t : Position) (s : StandsThere z r.row.key.items m r.read_set f.early v t) where
     only_then : OnlyReads v w → OnlyReads f.early w
     only_then only = (reads_on f.early v w only s.reads).only
 
@@ -387,34 +387,31 @@ module _ (z : Sizes) (u : View) (m : Attempt) (r : Room) (v w : View) (short : l
           }
 
 -- the deed that the check of a place may tell
-pub deed_there : (m : Attempt) (r : Room) (t : Position) → position_at m.finding ≡ Some t → deed_at m r ≡ settled_by m.job r.row (unwrap_or (value_of t.verdict) 0)
-deed_there m r t is = ap (λ (o : Option Position). settled_by m.job r.row (value_found o)) is
+pub deed_there : (j : Job) (m : Finding) (r : Room) (t : Position) → position_at m ≡ Some t → deed_by j m r ≡ settled_by j r.row (unwrap_or (value_of t.verdict) 0)
+deed_there j m r t is = ap (λ (o : Option Position). settled_by j r.row (value_found o)) is
 
 -- a check that was made of the place that was found
-module _ (z : Sizes) (u : View) (m : Attempt) (r : Room) (v w : View) (short : length r.row.key.items ≤ 64) (p : WasPlaced z u m r v w) where
-  abbrev t : Position
-  t = m.position
-
-  there : StandsThere z r.row.key.items m.finding r.read_set p.finding.early v t
-  there = stands_there z r.row.key.items (settled_of m.job r.row) m.finding r.read_set p.finding.early v p.finding.fits p.finding.exact t p.there
+module _ (z : Sizes) (u : View) (j : Job) (t : Position) (r : Room) (v w : View) (short : length r.row.key.items ≤ 64) (p : WasPlaced z u j t r v w) where
+  there : StandsThere z r.row.key.items p.by r.read_set p.finding.early v t
+  there = stands_there z r.row.key.items (settled_of j r.row) p.by r.read_set p.finding.early v p.finding.fits p.finding.exact t p.there
 
   abbrev told : Option Deed
-  told = told_as (settles m.job t.verdict) (deed_at m r)
+  told = told_as (settles j t.verdict) (deed_by j p.by r)
 
-  pub placed_within : settles m.job t.verdict ≡ false → EndsWithin z u 1201 r w
-  placed_within none = told_nothing z u m r v w short p.finding p.later p.step t there told p.checked (ap (λ (b : Bool). told_as b (deed_at m r)) none)
+  pub placed_within : settles j t.verdict ≡ false → EndsWithin z u 1201 r w
+  placed_within none = told_nothing z u j p.by r v w short p.finding p.later p.step t there told p.checked (ap (λ (b : Bool). told_as b (deed_by j p.by r)) none)
 
-  pub placed_tells : (d : Deed) → settles m.job t.verdict ≡ true → deed_at m r ≡ d → HasSettled z u r d w
-  placed_tells d some is = told_deed z u m r v w short p.finding p.later p.step t there told p.checked d (ap (λ (b : Bool). told_as b (deed_at m r)) some ∙ ap (λ (e : Deed). Some e) is)
+  pub placed_tells : (d : Deed) → settles j t.verdict ≡ true → deed_by j p.by r ≡ d → HasSettled z u r d w
+  placed_tells d some is = told_deed z u j p.by r v w short p.finding p.later p.step t there told p.checked d (ap (λ (b : Bool). told_as b (deed_by j p.by r)) some ∙ ap (λ (e : Deed). Some e) is)
 
   pub placed_standing : IsStanding z r.row.key.items t r.read_set w
-  placed_standing = stands_still z u m r v w short p.finding p.later p.step t there told p.checked
+  placed_standing = stands_still z u j p.by r v w short p.finding p.later p.step t there told p.checked
 
   pub placed_stood : StoodAtCheck z u r.row.key.items t r.read_set w
-  placed_stood = stood_still z u m r v w short p.finding p.later p.step t there told p.checked
+  placed_stood = stood_still z u j p.by r v w short p.finding p.later p.step t there told p.checked
 
   pub placed_checked : IsCheckOf t.stamp w
-  placed_checked = checked_still z u m r v w short p.finding p.later p.step t there told p.checked
+  placed_checked = checked_still z u j p.by r v w short p.finding p.later p.step t there told p.checked
 
   -- a leaf may come
   pub placed_comes : entered_by t.verdict ≡ None → ComesThere z u t r w
@@ -425,15 +422,15 @@ module _ (z : Sizes) (u : View) (m : Attempt) (r : Room) (v w : View) (short : l
   }
 
   -- how an insert ends at a place where no leaf may come
-  pub placed_ends : m.job ≡ Insert → (found : Verdict) → t.verdict ≡ found → (e : Ending) → entered_by found ≡ Some e → EndFits z u m r e w
+  pub placed_ends : j ≡ Insert → (found : Verdict) → t.verdict ≡ found → (e : Ending) → entered_by found ≡ Some e → EndsBy z u j t NewLeaf r e w
   placed_ends job (Found l value) is e at =
-      let so : settles m.job t.verdict ≡ true = ap (λ (j : Job). settles j t.verdict) job ∙ ap (settles Insert) is in
-      let deed : deed_at m r ≡ present r.row value =
-      deed_there m r t p.there ∙ (ap (λ (j : Job). settled_by j r.row (unwrap_or (value_of t.verdict) 0)) job ∙ ap (λ (f : Verdict). present r.row (unwrap_or (value_of f) 0)) is) in
-      subst (λ (b : Ending). EndFits z u m r b w) (same_Some {A = Ending} (Present value) e at) (job, placed_tells (present r.row value) so deed)
+      let so : settles j t.verdict ≡ true = ap (λ (i : Job). settles i t.verdict) job ∙ ap (settles Insert) is in
+      let deed : deed_by j p.by r ≡ present r.row value =
+      deed_there j p.by r t p.there ∙ (ap (λ (i : Job). settled_by i r.row (unwrap_or (value_of t.verdict) 0)) job ∙ ap (λ (f : Verdict). present r.row (unwrap_or (value_of f) 0)) is) in
+      subst (λ (b : Ending). EndsBy z u j t NewLeaf r b w) (same_Some {A = Ending} (Present value) e at) (job, placed_tells (present r.row value) so deed)
   placed_ends job Overlaps is e at =
-      let so : settles m.job t.verdict ≡ false = ap (λ (j : Job). settles j t.verdict) job ∙ ap (settles Insert) is in
-      subst (λ (b : Ending). EndFits z u m r b w) (same_Some {A = Ending} overlaps e at)
+      let so : settles j t.verdict ≡ false = ap (λ (i : Job). settles i t.verdict) job ∙ ap (settles Insert) is in
+      subst (λ (b : Ending). EndsBy z u j t NewLeaf r b w) (same_Some {A = Ending} overlaps e at)
       (job, within_so z u 1201 r w (omega arith) (placed_within so), record { stood = placed_stood; checked = placed_checked; overlaps = is })
   placed_ends job Empty is e at = cc
   placed_ends job (LeafMismatch l i byte) is e at = cc
@@ -485,24 +482,24 @@ not_settling z d so v (StorePin word) none may = absurd may
 not_settling z d so v RaiseEpoch none may = absurd may
 not_settling z d so v (ReadPin q) none may = absurd may
 
-module _ (z : Sizes) (u : View) (m : Attempt) (r : Room) (v : View) (f : IsFinding z u m r v) where
+module _ (z : Sizes) (u : View) (j : Job) (m : Finding) (r : Room) (v : View) (f : IsFinding z u j m r v) where
   abbrev k : List ℕ
   k = r.row.key.items
 
   abbrev so : Cells → Type 0
-  so s = HasValue s k (answer_at m.finding.descent.stage)
+  so s = HasValue s k (answer_at m.descent.stage)
 
-  descent_allowed : (a : Action) → asks m.finding.descent.stage ≡ Some a → MayLook z so v a
-  descent_allowed a is = subst (λ (o : Option Action). IfSome o (MayLook z so v)) is (allowed z k (settled_of m.job r.row) m.finding.descent.depth m.finding.descent.stage f.early v f.fits.descent)
+  descent_allowed : (a : Action) → asks m.descent.stage ≡ Some a → MayLook z so v a
+  descent_allowed a is = subst (λ (o : Option Action). IfSome o (MayLook z so v)) is (allowed z k (settled_of j r.row) m.descent.depth m.descent.stage f.early v f.fits.descent)
 
-  module _ (t : Position) (s : StandsThere z k m.finding r.read_set f.early v t) where
+  module _ (t : Position) (s : StandsThere z k m r.read_set f.early v t) where
     plain : HasVersion z t.stamp.cell × check.May z v t.stamp None
     plain = (s.standing.stamp.inside, record { stamp = s.standing.stamp.stamp; tells = tt })
 
     shown : (o : Option ℕ) → value_of t.verdict ≡ o → Shows z v t.stamp (λ c. HasValue c k o)
     shown o at = subst (λ (o : Option ℕ). Shows z v t.stamp (λ c. HasValue c k o)) (s.answers ∙ at) (descent_allowed (Settle t.stamp) s.settles).1.shows
 
-    settling : (j : Job) (found : Verdict) → t.verdict ≡ found → settles j found ≡ true → check.May z v t.stamp (Some (settled_by j r.row (unwrap_or (value_of found) 0)))
+    settling : (i : Job) (found : Verdict) → t.verdict ≡ found → settles i found ≡ true → check.May z v t.stamp (Some (settled_by i r.row (unwrap_or (value_of found) 0)))
     settling Insert (Found l value) at is = record { stamp = s.standing.stamp.stamp; tells = insert_settles z v t.stamp k r.row.value value (shown (Some value) (ap value_of at)) }
     settling Insert Empty at is = cc
     settling Insert (LeafMismatch l i byte) at is = cc
@@ -520,20 +517,20 @@ module _ (z : Sizes) (u : View) (m : Attempt) (r : Room) (v : View) (f : IsFindi
     settling Remove Torn at is = record { stamp = s.standing.stamp.stamp; tells = remove_settles z v t.stamp k (shown None (ap value_of at)) }
     settling Remove Absent at is = record { stamp = s.standing.stamp.stamp; tells = remove_settles z v t.stamp k (shown None (ap value_of at)) }
 
-    check_allowed : (b : Bool) → settles m.job t.verdict ≡ b → MayAsk z (settled_by m.job r.row (unwrap_or (value_of t.verdict) 0)) v (check_as b t.stamp)
-    check_allowed true is = (s.standing.stamp.inside, settling m.job t.verdict refl is)
+    check_allowed : (b : Bool) → settles j t.verdict ≡ b → MayAsk z (settled_by j r.row (unwrap_or (value_of t.verdict) 0)) v (check_as b t.stamp)
+    check_allowed true is = (s.standing.stamp.inside, settling j t.verdict refl is)
     check_allowed false is = plain
 
-  place_allowed : (o : Option Position) (a : Action) → position_at m.finding ≡ o → asks_place m.job o (asks m.finding.descent.stage) ≡ Some a → MayAsk z (deed_at m r) v a
+  place_allowed : (o : Option Position) (a : Action) → position_at m ≡ o → asks_place j o (asks m.descent.stage) ≡ Some a → MayAsk z (deed_by j m r) v a
   place_allowed (Some t) a at is =
-      let s = stands_there z k (settled_of m.job r.row) m.finding r.read_set f.early v f.fits f.exact t at in
-      let may : MayAsk z (deed_at m r) v (check_of m.job t) = subst (λ (d : Deed). MayAsk z d v (check_of m.job t)) (sym (deed_there m r t at)) (check_allowed t s (settles m.job t.verdict) refl) in
-      subst (MayAsk z (deed_at m r) v) (same_Some {A = Action} (check_of m.job t) a is) may
+      let s = stands_there z k (settled_of j r.row) m r.read_set f.early v f.fits f.exact t at in
+      let may : MayAsk z (deed_by j m r) v (check_of j t) = subst (λ (d : Deed). MayAsk z d v (check_of j t)) (sym (deed_there j m r t at)) (check_allowed t s (settles j t.verdict) refl) in
+      subst (MayAsk z (deed_by j m r) v) (same_Some {A = Action} (check_of j t) a is) may
   place_allowed None a at is =
-      not_settling z (deed_at m r) so v a (place_plain m.finding.descent.stage (undecided m.finding at) a is) (descent_allowed a is)
+      not_settling z (deed_by j m r) so v a (place_plain m.descent.stage (undecided m at) a is) (descent_allowed a is)
 
-  pub finding_allowed : (a : Action) → finding_asks m.job m.finding ≡ Some a → MayAsk z (deed_at m r) v a
-  finding_allowed a is = place_allowed (position_at m.finding) a refl is
+  pub finding_allowed : (a : Action) → finding_asks j m ≡ Some a → MayAsk z (deed_by j m r) v a
+  finding_allowed a is = place_allowed (position_at m) a refl is
 
 -- what may be asked of a place may be asked of a look, where it tells nothing of a row
 pub may_look : (z : Sizes) (d : Deed) (v : View) (a : Action) → MayAsk z d v a → MayLook z (λ s. ⊤) v a

@@ -6,14 +6,19 @@ use Rattle.art_attempt.proofs.Names.{naming_so}
 use Rattle.art_attempt.proofs.Numbers.{supplies_so}
 use Rattle.art_attempt.proofs.Finds.{ends_reading, within_so}
 use Rattle.art_attempt.proofs.Tries.{later_first, still_later}
-use Rattle.art_attempt.specs.Attempts.{EndsSo, HasMade, IsFinding, IsReadingOn, StageFits, ending_at, free_at}
+use Rattle.art_attempt.specs.Attempts.{EndsSo, HasMade, IsFinding, IsReadingOn, PartFits, StageFits, ending_at, free_at}
 use Rattle.art_make.specs.Apply.{is_begun}
 use Rattle.art_attempt.specs.Trying.{StillTries}
 use Rattle.art_attempt.specs.declared.attempts.Attempt.{Attempt}
+use Rattle.art_attempt.specs.declared.attempts.Job.{Job}
+use Rattle.art_attempt.specs.declared.attempts.Part.{Part}
+use Rattle.art_attempt.specs.declared.attempts.Part.TheVariants as part
 use Rattle.art_attempt.specs.declared.attempts.Stage.{Stage}
 use Rattle.art_attempt.specs.declared.attempts.Stage.TheVariants as stage
 use Rattle.art_attempt.specs.declared.rooms.Room.{Room}
 use Rattle.art_find.proofs.Stages.{still_reading}
+use Rattle.art_find.specs.declared.findings.Finding.{Finding}
+use Rattle.art_find.specs.declared.findings.Position.{Position}
 use Rattle.art_find.specs.declared.rereadings.Rereading.{Rereading}
 use Rattle.art_epoch.proofs.Stocked.{stock_same}
 use Rattle.art_make.specs.Apply as apply
@@ -70,13 +75,13 @@ begun_made (Ended r) is = cc
 
 -- ---- at each stage
 
-module _ (z : Sizes) (u : View) (m : Attempt) (r : Room) (v : View) where
-  finding_so : length r.row.key.items ≤ 64 → IsFinding z u m r v → EndsSo z u r v
-  finding_so short f =
-      let reads = still_reading z r.row.key.items _ m.finding.descent.depth m.finding.descent.stage f.early v f.going f.fits.descent in
-      within_so z u 1201 r v (omega arith) (ends_reading z u m r v v short f (later_first v) (omega arith) reads.only)
+module _ (z : Sizes) (u : View) (j : Job) (r : Room) (v : View) where
+  finding_so : length r.row.key.items ≤ 64 → (m : Finding) → IsFinding z u j m r v → EndsSo z u r v
+  finding_so short m f =
+      let reads = still_reading z r.row.key.items _ m.descent.depth m.descent.stage f.early v f.going f.fits.descent in
+      within_so z u 1201 r v (omega arith) (ends_reading z u j m r v v short f (later_first v) (omega arith) reads.only)
 
-  apply_so : (s : Apply) → HasMade z u m s r v → is_begun s ≡ true → EndsSo z u r v
+  apply_so : (s : Apply) → HasMade z u j s r v → is_begun s ≡ true → EndsSo z u r v
   apply_so s h is =
       let p = begun_locking r.change s h.early v is h.fits.stage in
       let free = locking_none h.early r.change v p in
@@ -94,14 +99,17 @@ module _ (z : Sizes) (u : View) (m : Attempt) (r : Room) (v : View) where
         has = stock_same z r.row.key.items r.row.value h.early v r.stock (ap (λ (o : Rest). o.hand) p.same.rest) h.has;
       }
 
-  reading_ends : (q : Rereading) → IsReadingOn z u m q r v → EndsSo z u r v
-  reading_ends q f = reading_so z u f.early f.base r v f.later f.has f.reads.reads 23100 (λ limited. let spent = f.spent limited in omega (arith, spent))
+  reading_ends : (t : Position) (q : Rereading) → IsReadingOn z u j t q r v → EndsSo z u r v
+  reading_ends t q f = reading_so z u f.early f.base r v f.later f.has f.reads.reads 23100 (λ limited. let spent = f.spent limited in omega (arith, spent))
 
-  pub free_so : length r.row.key.items ≤ 64 → (s : Stage) → free_at s ≡ true → ending_at s ≡ None → StageFits z u s m r v → EndsSo z u r v
-  free_so short stage.Finding is going fits = finding_so short fits
-  free_so short (stage.Reserve s) is going fits = within_so z u 21700 r v (omega arith) (supplies_so z u m s r v fits.0)
-  free_so short (stage.Reading q) is going fits = reading_ends q fits.0
-  free_so short (stage.Naming byte n s) is going fits = within_so z u 21702 r v (omega arith) (naming_so z u m byte n s r v fits.0)
-  free_so short (stage.Validate s) is going fits = within_so z u 22500 r v (omega arith) (validating_so z u m s r v fits.0)
-  free_so short (stage.Apply s) is going fits = apply_so s fits.0 is
-  free_so short (stage.Ended e) is going fits = cc
+  part_ends : (t : Position) (p : Part) → PartFits z u j t p r v → EndsSo z u r v
+  part_ends t (part.Reserve c s) fits = within_so z u 21700 r v (omega arith) (supplies_so z u j t c s r v fits.0)
+  part_ends t (part.Reading q) fits = reading_ends t q fits.0
+  part_ends t (part.Naming byte n s) fits = within_so z u 21702 r v (omega arith) (naming_so z u j t byte n s r v fits.0)
+  part_ends t (part.Validate c s) fits = within_so z u 22500 r v (omega arith) (validating_so z u j t c s r v fits.0)
+
+pub free_so : (z : Sizes) (u : View) (m : Attempt) (r : Room) (v : View) → length r.row.key.items ≤ 64 → (s : Stage) → free_at s ≡ true → ending_at s ≡ None → StageFits z u s m r v → EndsSo z u r v
+free_so z u m r v short (stage.Finding f) is going fits = finding_so z u m.job r v short f fits
+free_so z u m r v short (stage.Placed t p) is going fits = part_ends z u m.job r v t p fits
+free_so z u m r v short (stage.Apply s) is going fits = apply_so z u m.job r v s fits.0 is
+free_so z u m r v short (stage.Ended e) is going fits = cc

@@ -38,11 +38,8 @@ apply_free left m is = rw is refl
 
 -- at most as many as of attempts alone
 pub free_few : (left : ℕ) (s : Stage) → free_at s ≡ true → left_at left s ≤ tries_left left
-free_few left stage.Finding is = omega arith
-free_few left (stage.Reserve m) is = omega arith
-free_few left (stage.Reading q) is = omega arith
-free_few left (stage.Naming byte n s) is = omega arith
-free_few left (stage.Validate s) is = omega arith
+free_few left (stage.Finding f) is = omega arith
+free_few left (stage.Placed t p) is = omega arith
 free_few left (stage.Apply m) is = let same = apply_free left m is in omega arith
 free_few left (stage.Ended ending.New) is = omega arith
 free_few left (stage.Ended (ending.Present x)) is = omega arith

@@ -8,6 +8,7 @@ pub mod CaseCells
 pub mod Chosen
 pub mod Commits
 pub mod Counts
+pub mod Ends
 pub mod Finds
 pub mod Free
 pub mod Given
@@ -21,6 +22,7 @@ pub mod LowerSeen
 pub mod Names
 pub mod Numbers
 pub mod Overlaps
+pub mod OneStep
 mod Rereads
 mod RereadsGoOn
 mod Spending

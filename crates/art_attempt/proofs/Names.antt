@@ -6,8 +6,7 @@ use Rattle.art_attempt.proofs.CaseCells.{reading_so}
 use Rattle.art_attempt.proofs.Finds.{within_so}
 use Rattle.art_attempt.proofs.Looks.{no_fewer_named}
 use Rattle.art_attempt.specs.Attempts.{EndsSo, EndsWithin, IsNaming}
-use Rattle.art_attempt.specs.declared.attempts.Attempt.{Attempt}
-use Rattle.art_attempt.specs.declared.attempts.Stage.{Stage}
+use Rattle.art_attempt.specs.declared.attempts.Job.{Job}
 use Rattle.art_attempt.specs.declared.rooms.Room.{Room}
 use Rattle.art_cell.specs.declared.cells.Node.{Node}
 use Rattle.art_find.specs.Descents.{IsReading}
@@ -39,8 +38,8 @@ naming_reads z k t n (names.Check x) read_set lower u v fits = fits.0.stands.rea
 naming_reads z k t n (names.Ended (Unchanged x)) read_set lower u v fits = fits.0.stands.reads
 naming_reads z k t n (names.Ended Changed) read_set lower u v fits = fits
 
-module _ (z : Sizes) (u : View) (m : Attempt) (byte : ℕ) (n : Node) (s : Naming) (r : Room) (v : View) (h : IsNaming z u m byte n s r v) where
-  pub naming_on : (w : View) (next : Naming) (lower : List (Option ℕ)) → v.steps ≤ w.steps → naming.Fits z r.row.key.items m.position n next r.read_set lower h.early w → IsNaming z u m byte n next (record r { lower = lower }) w
+module _ (z : Sizes) (u : View) (j : Job) (t : Position) (byte : ℕ) (n : Node) (s : Naming) (r : Room) (v : View) (h : IsNaming z u j t byte n s r v) where
+  pub naming_on : (w : View) (next : Naming) (lower : List (Option ℕ)) → v.steps ≤ w.steps → naming.Fits z r.row.key.items t n next r.read_set lower h.early w → IsNaming z u j t byte n next (record r { lower = lower }) w
   naming_on w next lower more fits =
       let before = h.later.steps in
       let same = fits.failures in
@@ -57,12 +56,8 @@ module _ (z : Sizes) (u : View) (m : Attempt) (byte : ℕ) (n : Node) (s : Namin
         fits = fits;
       }
 
-  -- at whatever stage
-  pub naming_at : (g : Stage) → IsNaming z u (record m { stage = g }) byte n s r v
-  naming_at g = record { early = h.early; base = h.base; later = h.later; spent = h.spent; has = h.has; job = h.job; leaf = h.leaf; leaves = h.leaves; fits = h.fits }
-
   pub naming_so : EndsWithin z u 21702 r v
-  naming_so = reading_so z u h.early h.base r v h.later h.has (naming_reads z r.row.key.items m.position n s r.read_set r.lower h.early v h.fits.stage) 21702
+  naming_so = reading_so z u h.early h.base r v h.later h.has (naming_reads z r.row.key.items t n s r.read_set r.lower h.early v h.fits.stage) 21702
       (λ limited. let spent = h.spent limited in let steps = h.fits.steps in let more = h.later.failures in omega (arith, spent, steps, more))
 
   pub naming_changed : naming.ended_at s ≡ Some Changed → EndsSo z u r v × (u.failures < v.failures)

@@ -8,13 +8,14 @@ use Rattle.art_attempt.proofs.Tries.{standing_takes, still_takes}
 use Rattle.art_attempt.specs.Attempts.{EndsWithin, HasSupplies, IsFull, IsKnown, WantsNumbers}
 use Rattle.art_attempt.specs.Cases.{ComesThere, IsCaseOf, demand_of}
 use Rattle.art_attempt.specs.Trying.{IsLater}
-use Rattle.art_attempt.specs.declared.attempts.Attempt.{Attempt}
+use Rattle.art_attempt.specs.declared.attempts.Job.{Job}
 use Rattle.art_attempt.specs.declared.attempts.Job.TheVariants.{Insert, Remove}
 use Rattle.art_attempt.specs.declared.cases.Case.{Case}
 use Rattle.art_attempt.specs.declared.cases.Case.TheVariants.{NewLeaf, DropLeaf, Shrink, MergeLeaf, MergeNode, Torn}
 use Rattle.art_attempt.specs.declared.rooms.Room.{Room}
 use Rattle.art_cell.specs.declared.layouts.Pool.{Pool}
 use Rattle.art_find.specs.Findings.{IsStanding}
+use Rattle.art_find.specs.declared.findings.Position.{Position}
 use Rattle.art_attempt.specs.Reserve as reserve
 use Rattle.art_attempt.specs.Reserve.{HasAll, HasNone}
 use Rattle.art_attempt.specs.declared.reserve.Reserved.{Reserved}
@@ -31,9 +32,9 @@ reserved_at (supplies.Leaf t) e is = cc
 reserved_at (supplies.LeafWriter t) e is = cc
 reserved_at (supplies.Node t) e is = cc
 
-module _ (z : Sizes) (u : View) (m : Attempt) (q : Reserve) (r : Room) (v : View) (h : HasSupplies z u m q r v) where
+module _ (z : Sizes) (u : View) (j : Job) (t : Position) (c : Case) (q : Reserve) (r : Room) (v : View) (h : HasSupplies z u j t c q r v) where
   abbrev Stage : Reserve → Type 0
-  Stage s = reserve.StageFits z (demand_of z m.case m.position.verdict) r.row.key.items r.row.value s r.stock h.early v
+  Stage s = reserve.StageFits z (demand_of z c t.verdict) r.row.key.items r.row.value s r.stock h.early v
 
   supplies_later : IsLater h.early v
   supplies_later = record { steps = h.fits.only.later; failures = h.fits.only.failures }
@@ -45,45 +46,45 @@ module _ (z : Sizes) (u : View) (m : Attempt) (q : Reserve) (r : Room) (v : View
     spent = λ limited.
         let spent = h.spent limited in
         let counted = h.fits.counted in
-        let few = few_looks z (demand_of z m.case m.position.verdict) limited in
+        let few = few_looks z (demand_of z c t.verdict) limited in
         omega (arith, spent, counted, few);
     has = h.fits.only.has;
   }
 
-  pub supplies_standing : IsStanding z r.row.key.items m.position r.read_set v
-  supplies_standing = standing_takes z r.row.key.items m.position r.read_set h.early v h.fits.only.only h.standing
+  pub supplies_standing : IsStanding z r.row.key.items t r.read_set v
+  supplies_standing = standing_takes z r.row.key.items t r.read_set h.early v h.fits.only.only h.standing
 
-  comes_early : m.case ≡ NewLeaf → ComesThere z u m.position r h.early
-  comes_early is = subst (λ (c : Case). WantsNumbers z u c m.position r h.early) is h.wants
+  comes_early : c ≡ NewLeaf → ComesThere z u t r h.early
+  comes_early is = subst (λ (c : Case). WantsNumbers z u c t r h.early) is h.wants
 
   -- no number of the pool was found for a leaf that comes
-  pub supplies_full : m.job ≡ Insert → (pool : Pool) → reserve.ended_at q ≡ Some (Full pool) → IsFull z u m.position r pool v
+  pub supplies_full : j ≡ Insert → (pool : Pool) → reserve.ended_at q ≡ Some (Full pool) → IsFull z u t r pool v
   supplies_full job pool is =
-      let new = case_comes m.job m.case job h.case in
+      let new = case_comes j c job h.case in
       let wants = comes_early new in
-      let none : HasNone z (demand_of z NewLeaf m.position.verdict) pool h.early v =
-      subst (λ (c : Case). HasNone z (demand_of z c m.position.verdict) pool h.early v) new (subst Stage (reserved_at q (Full pool) is) h.fits.stage) in
+      let none : HasNone z (demand_of z NewLeaf t.verdict) pool h.early v =
+      subst (λ (c : Case). HasNone z (demand_of z c t.verdict) pool h.early v) new (subst Stage (reserved_at q (Full pool) is) h.fits.stage) in
       let same = ap (λ (t : View). t.checked) h.fits.only.only in
       let step = ap (λ (c : LastCheck). c.step) same in
       let done = wants.stood.done in
       let began = h.base.later.steps in
       let since = none.after in
       record {
-        stood = stood_stays h.early v same z u u r.row.key.items m.position r.read_set (omega arith) h.fits.only.later wants.stood;
-        checked = check_stays h.early v same m.position.stamp h.fits.only.found wants.checked;
+        stood = stood_stays h.early v same z u u r.row.key.items t r.read_set (omega arith) h.fits.only.later wants.stood;
+        checked = check_stays h.early v same t.stamp h.fits.only.found wants.checked;
         comes = wants.comes;
         none = record { wanted = none.wanted; since = none.since; after = omega (arith, began, since); none = none.none };
         after = omega (arith, step, done, since);
       }
 
-  supplies_all : reserve.ended_at q ≡ Some Ready → HasAll (demand_of z m.case m.position.verdict) r.stock
+  supplies_all : reserve.ended_at q ≡ Some Ready → HasAll (demand_of z c t.verdict) r.stock
   supplies_all is = subst Stage (reserved_at q Ready is) h.fits.stage
 
   -- all is in hand
-  pub supplies_known : reserve.ended_at q ≡ Some Ready → IsKnown z u m.case m.position r v
-  supplies_known is = by m.case (supplies_all is) h.wants
+  pub supplies_known : reserve.ended_at q ≡ Some Ready → IsKnown z u c t r v
+  supplies_known is = by c (supplies_all is) h.wants
     where
-      by : (c : Case) → HasAll (demand_of z c m.position.verdict) r.stock → WantsNumbers z u c m.position r h.early → IsKnown z u c m.position r v
+      by : (c : Case) → HasAll (demand_of z c t.verdict) r.stock → WantsNumbers z u c t r h.early → IsKnown z u c t r v
       by NewLeaf all wants = (wants.comes, all)
       by DropLeaf all wants = absurd wants
       by (Shrink layout) all wants = (wants.0, (wants.1, all.node layout refl))
@@ -92,13 +93,13 @@ module _ (z : Sizes) (u : View) (m : Attempt) (q : Reserve) (r : Room) (v : View
       by Torn all wants = absurd wants
 
   -- no smaller node was found: the leaf goes alone
-  pub supplies_alone : m.job ≡ Remove → (pool : Pool) → reserve.ended_at q ≡ Some (Full pool) → IsKnown z u DropLeaf m.position r v
-  supplies_alone job pool is = by m.case h.case h.wants (subst Stage (reserved_at q (Full pool) is) h.fits.stage)
+  pub supplies_alone : j ≡ Remove → (pool : Pool) → reserve.ended_at q ≡ Some (Full pool) → IsKnown z u DropLeaf t r v
+  supplies_alone job pool is = by c h.case h.wants (subst Stage (reserved_at q (Full pool) is) h.fits.stage)
     where
-      by : (c : Case) → IsCaseOf m.job c → WantsNumbers z u c m.position r h.early → HasNone z (demand_of z c m.position.verdict) pool h.early v → IsKnown z u DropLeaf m.position r v
-      by NewLeaf of wants none = let no : Insert ≡ Remove = sym (comes_insert m.job NewLeaf refl of) ∙ job in absurd (cc)
+      by : (c : Case) → IsCaseOf j c → WantsNumbers z u c t r h.early → HasNone z (demand_of z c t.verdict) pool h.early v → IsKnown z u DropLeaf t r v
+      by NewLeaf of wants none = let no : Insert ≡ Remove = sym (comes_insert j NewLeaf refl of) ∙ job in absurd (cc)
       by DropLeaf of wants none = absurd wants
-      by (Shrink layout) of wants none = (wants.0, inr (no_smaller z m.position layout r.read_set u h.early v pool wants.1 h.base none))
+      by (Shrink layout) of wants none = (wants.0, inr (no_smaller z t layout r.read_set u h.early v pool wants.1 h.base none))
       by (MergeLeaf other) of wants none = absurd wants
       by (MergeNode l) of wants none = absurd wants
       by Torn of wants none = absurd wants

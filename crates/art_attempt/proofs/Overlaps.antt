@@ -3,7 +3,8 @@ use Rattle.std.proofs.Common.{◌≡◌, ◌∙◌, ℕ, Bool, true, false, List
 use Rattle.std.specs.Prelude.{⊤, Result, Ok, Err}
 use Rattle.std.proofs.lemmas.Option.{same_Some}
 use Rattle.art_attempt.proofs.Finds.{stands_there}
-use Rattle.art_attempt.specs.Attempts.{Fits, IsFinding, IsOverlapBy, StageFits, asks, asks_at, asks_place, check_as, ended_so, entered_by, settled_of, settles}
+use Rattle.art_attempt.proofs.Stages.{is_finding}
+use Rattle.art_attempt.specs.Attempts.{Fits, IsOverlapBy, asks, asks_at, asks_place, check_as, ended_so, entered_by, settled_of, settles}
 use Rattle.art_attempt.specs.declared.attempts.Ending.TheVariants.{Overlaps as overlaps}
 use Rattle.art_attempt.specs.declared.attempts.Attempt.{Attempt}
 use Rattle.art_attempt.specs.declared.attempts.Job.{Job}
@@ -54,13 +55,13 @@ pub overlap_checked : (z : Sizes) (u v : View) (m : Attempt) (r : Room) (asked :
 overlap_checked z u v m r asked answer fits at o =
     let k = r.row.key.items in
     let t = o.position in
-    let f : IsFinding z u m r v = subst (λ (s : Stage). StageFits z u s m r v) o.finding fits.stage in
-    let there = stands_there z k (settled_of m.job r.row) m.finding r.read_set f.early v f.fits f.exact t o.there in
+    let f = is_finding z u m r v o.by o.finding fits in
+    let there = stands_there z k (settled_of m.job r.row) o.by r.read_set f.early v f.fits f.exact t o.there in
     let says : Says z k t.depth t.stamp Overlaps v = subst (λ (found : Verdict). Says z k t.depth t.stamp found v) o.overlaps there.standing.says in
     let so : settles m.job t.verdict ≡ false = ap (λ (j : Job). settles j t.verdict) o.job ∙ ap (settles Insert) o.overlaps in
     let checks : asks m r ≡ Some (Check t.stamp) =
     ap (λ (s : Stage). asks_at s m r) o.finding
-    ∙ (ap (λ (p : Option Position). asks_place m.job p (descents.asks m.finding.descent.stage)) o.there
+    ∙ (ap (λ (p : Option Position). asks_place m.job p (descents.asks o.by.descent.stage)) o.there
     ∙ ap (λ (b : Bool). Some (check_as b t.stamp)) so) in
     (t.stamp, same_Some {A = Action} asked (Check t.stamp) (sym at ∙ checks), says)
 

@@ -1,13 +1,13 @@
 -- What an attempt that fits knows at the stage where it stands; what stays of an attempt stays on.
-use Rattle.std.proofs.Common.{◌≡◌, ◌∙◌, subst}
+use Rattle.std.proofs.Common.{◌≡◌, ◌∙◌, ap, sym, subst}
 use Rattle.art_attempt.specs.declared.rooms.Room.{Room}
-use Rattle.art_attempt.specs.Attempts.{Fits, HasMade, HasSupplies, IsFinding, IsSameTry, IsValidating, StageFits}
+use Rattle.art_attempt.specs.Attempts.{Fits, HasMade, IsFinding, IsRoom, IsSameTry, PartFits, StageFits, deed_at, deed_by, found_in, settled_by}
 use Rattle.art_attempt.specs.declared.attempts.Attempt.{Attempt}
 use Rattle.art_attempt.specs.declared.attempts.Stage.{Stage}
 use Rattle.art_attempt.specs.declared.attempts.Stage.TheVariants as stage
-use Rattle.art_find.specs.declared.rereadings.Rereading.{Rereading}
-use Rattle.art_attempt.specs.declared.reserve.Reserve.{Reserve}
-use Rattle.art_attempt.specs.declared.validate.Validate.{Validate}
+use Rattle.art_attempt.specs.declared.attempts.Part.{Part}
+use Rattle.art_find.specs.declared.findings.Finding.{Finding}
+use Rattle.art_find.specs.declared.findings.Position.{Position}
 use Rattle.art_make.specs.declared.apply.Apply.{Apply}
 use Rattle.art_step.specs.declared.views.Sizes.{Sizes}
 use Rattle.art_step.specs.declared.views.View.{View}
@@ -19,17 +19,27 @@ module _ (z : Sizes) (u : View) (m : Attempt) (r : Room) (v : View) where
   pub at_stage : (s : Stage) → m.stage ≡ s → Fits z u m r v → StageFits z u s m r v
   at_stage s is fits = subst (λ (s : Stage). StageFits z u s m r v) is fits.stage
 
-  pub is_finding : m.stage ≡ stage.Finding → Fits z u m r v → IsFinding z u m r v
-  is_finding is fits = at_stage stage.Finding is fits
+  pub is_finding : (f : Finding) → m.stage ≡ stage.Finding f → Fits z u m r v → IsFinding z u m.job f r v
+  is_finding f is fits = at_stage (stage.Finding f) is fits
 
-  pub has_supplies : (s : Reserve) → m.stage ≡ stage.Reserve s → Fits z u m r v → HasSupplies z u m s r v
-  has_supplies s is fits = (at_stage (stage.Reserve s) is fits).0
+  pub has_part : (t : Position) (p : Part) → m.stage ≡ stage.Placed t p → Fits z u m r v → PartFits z u m.job t p r v
+  has_part t p is fits = at_stage (stage.Placed t p) is fits
 
-  pub reads_on : (q : Rereading) → m.stage ≡ stage.Reading q → Fits z u m r v → StageFits z u (stage.Reading q) m r v
-  reads_on q is fits = at_stage (stage.Reading q) is fits
+  -- where it stands at this part
+  module _ (t : Position) (p q : Part) (at : m.stage ≡ stage.Placed t p) (is : p ≡ q) (fits : Fits z u m r v) where
+    pub at_part : PartFits z u m.job t q r v
+    at_part = subst (λ (o : Part). PartFits z u m.job t o r v) is (has_part t p at fits)
 
-  pub is_validating : (s : Validate) → m.stage ≡ stage.Validate s → Fits z u m r v → IsValidating z u m s r v
-  is_validating s is fits = (at_stage (stage.Validate s) is fits).0
-
-  pub has_made : (s : Apply) → m.stage ≡ stage.Apply s → Fits z u m r v → HasMade z u m s r v
+  pub has_made : (s : Apply) → m.stage ≡ stage.Apply s → Fits z u m r v → HasMade z u m.job s r v
   has_made s is fits = (at_stage (stage.Apply s) is fits).0
+
+-- it goes on where the key stands
+module _ (z : Sizes) (u : View) (m n : Attempt) (t : Position) (p : Part) (r : Room) (v : View) where
+  pub goes_on_at : n ≡ record m { stage = stage.Placed t p } → IsRoom z r → PartFits z u m.job t p r v → Fits z u n r v
+  goes_on_at is room fits =
+      let there : Fits z u (record m { stage = stage.Placed t p }) r v = record { room = room; stage = fits } in
+      subst (λ (o : Attempt). Fits z u o r v) (sym is) there
+
+-- the deed of its check, while the place is sought
+pub deed_found : (m : Attempt) (f : Finding) (r : Room) → m.stage ≡ stage.Finding f → deed_at m r ≡ deed_by m.job f r
+deed_found m f r is = ap (λ (s : Stage). settled_by m.job r.row (found_in s)) is

@@ -10,13 +10,14 @@ use Rattle.art_attempt.specs.declared.attempts.Ending.{Ending}
 use Rattle.art_attempt.specs.declared.attempts.Ending.TheVariants.{New, Present, Gone, Absent, Full, Exhausted, Overlaps, Restart}
 use Rattle.art_attempt.specs.declared.attempts.Job.{Job}
 use Rattle.art_attempt.specs.declared.attempts.Job.TheVariants.{Insert, Remove}
+use Rattle.art_attempt.specs.declared.attempts.Part.{Part}
+use Rattle.art_attempt.specs.declared.attempts.Part.TheVariants as part
 use Rattle.art_attempt.specs.declared.attempts.Stage.{Stage}
 use Rattle.art_attempt.specs.declared.attempts.Stage.TheVariants as stage
 use Rattle.art_attempt.specs.declared.cases.Case.{Case}
 use Rattle.art_attempt.specs.declared.cases.Case.TheVariants.{NewLeaf, Shrink}
 use Rattle.art_attempt.specs.declared.rooms.Room.{Room}
 use Rattle.art_cell.specs.declared.cells.Cell.{Cell as CellOf}
-use Rattle.art_cell.specs.declared.cells.Cell.TheVariants as cell
 use Rattle.art_cell.specs.declared.Link.TheVariants.{Node as node}
 use Rattle.art_cell.specs.declared.Node.{Node as NodeOf}
 use Rattle.art_cell.specs.declared.layouts.Pool.{Pool}
@@ -98,24 +99,28 @@ finding_asks j m = asks_place j (position_at m) (descents.asks m.descent.stage)
 abbrev pub supply_asks : Reserve → Room → Option Action
 supply_asks s r = reserve.asks r.row.key.items r.row.value r.stock s
 
-abbrev pub reading_asks : Attempt → Rereading → Option Action
-reading_asks m q = reads_next m.position.stamp q
+abbrev pub reading_asks : Position → Rereading → Option Action
+reading_asks t q = reads_next t.stamp q
 
-abbrev pub naming_asks : Attempt → Naming → Option Action
-naming_asks m s = naming.asks m.position s
+abbrev pub naming_asks : Position → Naming → Option Action
+naming_asks t s = naming.asks t s
 
-abbrev pub validate_asks : Attempt → Validate → Option Action
-validate_asks m s = validate.asks m.position (cells_of m.case m.position.verdict) s
+abbrev pub validate_asks : Position → Case → Validate → Option Action
+validate_asks t c s = validate.asks t (cells_of c t.verdict) s
+
+-- where the key stands so
+abbrev pub part_asks : Part → Position → Room → Option Action
+part_asks (part.Reserve c s) t r = supply_asks s r
+part_asks (part.Reading q) t r = reading_asks t q
+part_asks (part.Naming byte n s) t r = naming_asks t s
+part_asks (part.Validate c s) t r = validate_asks t c s
 
 abbrev pub apply_asks : Apply → Room → Option Action
 apply_asks s r = apply.asks r.change s
 
 abbrev pub asks_at : Stage → Attempt → Room → Option Action
-asks_at stage.Finding m r = finding_asks m.job m.finding
-asks_at (stage.Reserve s) m r = supply_asks s r
-asks_at (stage.Reading q) m r = reading_asks m q
-asks_at (stage.Naming byte n s) m r = naming_asks m s
-asks_at (stage.Validate s) m r = validate_asks m s
+asks_at (stage.Finding f) m r = finding_asks m.job f
+asks_at (stage.Placed t q) m r = part_asks q t r
 asks_at (stage.Apply s) m r = apply_asks s r
 asks_at (stage.Ended e) m r = None
 
@@ -130,10 +135,6 @@ ending_at s = None
 -- how it ended, if it has
 abbrev pub ended_at : Attempt → Option Ending
 ended_at m = ending_at m.stage
-
--- a position that says nothing, where none is known yet
-abbrev pub nowhere : Position
-nowhere = record { stamp = record { cell = cell.Anchor; version = 0; first = 0 }; depth = 0; above = None; verdict = verdict.Absent }
 
 -- ---- what it tells
 
@@ -158,8 +159,16 @@ abbrev pub value_found : Option Position → ℕ
 value_found (Some t) = unwrap_or (value_of t.verdict) 0
 value_found None = 0
 
+-- while the place is sought; later no check settles the answer
+abbrev pub found_in : Stage → ℕ
+found_in (stage.Finding f) = value_found (position_at f)
+found_in s = 0
+
 abbrev pub found_at : Attempt → ℕ
-found_at m = value_found (position_at m.finding)
+found_at m = found_in m.stage
+
+abbrev pub deed_by : Job → Finding → Room → Deed
+deed_by j f r = settled_by j r.row (value_found (position_at f))
 
 abbrev pub deed_at : Attempt → Room → Deed
 deed_at m r = settled_by m.job r.row (found_at m)
@@ -202,25 +211,26 @@ abbrev pub EndsSo : Sizes → View → Room → View → Type 0
 EndsSo z u r v = EndsWithin z u 23100 r v
 
 -- the place is sought
-pub record IsFinding (z : Sizes) (u : View) (m : Attempt) (r : Room) (v : View) : Type 0 where
+pub record IsFinding (z : Sizes) (u : View) (j : Job) (f : Finding) (r : Room) (v : View) : Type 0 where
   pub early : View
   pub base : StillTries u early
   pub later : IsLater early v
-  pub spent : HasSpent z u (descents.most_steps m.finding.descent.depth m.finding.descent.stage) v
+  pub spent : HasSpent z u (descents.most_steps f.descent.depth f.descent.stage) v
   pub has : HasHand z early r
-  pub fits : FindingFits z r.row.key.items (settled_of m.job r.row) m.finding r.read_set early v
-  pub going : descents.ended_at m.finding.descent.stage ≡ None
-  pub exact : descents.IsExact m.finding.descent.stage
+  pub fits : FindingFits z r.row.key.items (settled_of j r.row) f r.read_set early v
+  pub going : descents.ended_at f.descent.stage ≡ None
+  pub exact : descents.IsExact f.descent.stage
 
--- from the view v to the view w the place of the key was checked, which tells the answer or nothing
+-- from the view v to the view w the place of the key that was found was checked, which tells the answer or nothing
 abbrev pub told_as : Bool → Deed → Option Deed
 told_as true d = Some d
 told_as false d = None
 
-pub record WasPlaced (z : Sizes) (u : View) (m : Attempt) (r : Room) (v w : View) : Type 0 where
-  pub finding : IsFinding z u m r v
-  pub there : position_at m.finding ≡ Some m.position
-  pub checked : check.Unchanged z v w m.position.stamp (told_as (settles m.job m.position.verdict) (deed_at m r))
+pub record WasPlaced (z : Sizes) (u : View) (j : Job) (t : Position) (r : Room) (v w : View) : Type 0 where
+  pub by : Finding
+  pub finding : IsFinding z u j by r v
+  pub there : position_at by ≡ Some t
+  pub checked : check.Unchanged z v w t.stamp (told_as (settles j t.verdict) (deed_by j by r))
   pub later : IsLater v w
   pub step : w.steps ≤ v.steps + 1
 
@@ -231,31 +241,31 @@ WantsNumbers z u (Shrink layout) t r v = HasLeaf t r × (loss_at t r.read_set �
 WantsNumbers z u c t r v = ⊥
 
 -- numbers come into the hand, or all did, or one was not found
-pub record HasSupplies (z : Sizes) (u : View) (m : Attempt) (s : Reserve) (r : Room) (v : View) : Type 0 where
+pub record HasSupplies (z : Sizes) (u : View) (j : Job) (t : Position) (c : Case) (s : Reserve) (r : Room) (v : View) : Type 0 where
   pub early : View
   pub base : StillTries u early
   pub spent : HasSpent z u 1203 early
-  pub case : IsCaseOf m.job m.case
-  pub standing : IsStanding z r.row.key.items m.position r.read_set early
-  pub wants : WantsNumbers z u m.case m.position r early
-  pub fits : reserve.Fits z (demand_of z m.case m.position.verdict) r.row.key.items r.row.value s r.stock early v
+  pub case : IsCaseOf j c
+  pub standing : IsStanding z r.row.key.items t r.read_set early
+  pub wants : WantsNumbers z u c t r early
+  pub fits : reserve.Fits z (demand_of z c t.verdict) r.row.key.items r.row.value s r.stock early v
 
 -- at most so many steps were made, with one for each word of the node before this place
 abbrev pub reading_most : Rereading → ℕ
 reading_most q = 1467 - (266 - q.place)
 
 -- the words of the node are read, or all are known; it goes by those that were read
-pub record IsReadingOn (z : Sizes) (u : View) (m : Attempt) (q : Rereading) (r : Room) (v : View) : Type 0 where
+pub record IsReadingOn (z : Sizes) (u : View) (j : Job) (t : Position) (q : Rereading) (r : Room) (v : View) : Type 0 where
   pub early : View
   pub base : StillTries u early
   pub later : IsLater early v
   pub spent : HasSpent z u (reading_most q) v
   pub has : HasHand z early r
-  pub job : m.job ≡ Remove
-  pub leaf : HasLeaf m.position r
-  pub reads : StillStands z r.row.key.items m.position r.read_set early v
-  pub merges : loss_at m.position r.read_set ≡ loss.Merges
-  pub fits : RereadingFits z v m.position.stamp q (node_of r.read_set)
+  pub job : j ≡ Remove
+  pub leaf : HasLeaf t r
+  pub reads : StillStands z r.row.key.items t r.read_set early v
+  pub merges : loss_at t r.read_set ≡ loss.Merges
+  pub fits : RereadingFits z v t.stamp q (node_of r.read_set)
 
 -- what was found when the case was chosen
 abbrev pub IsKnown : Sizes → View → Case → Position → Room → View → Type 0
@@ -263,27 +273,27 @@ IsKnown z u NewLeaf t r v = Comes t.verdict × HasAll (demand_of z NewLeaf t.ver
 IsKnown z u c t r v = HasLeaf t r × IsChosen z c t r.read_set r.gone r.stock u v
 
 -- the node that takes the place of the one that goes is stamped, and that one is checked; it is its child at this byte
-pub record IsNaming (z : Sizes) (u : View) (m : Attempt) (byte : ℕ) (n : NodeOf) (s : Naming) (r : Room) (v : View) : Type 0 where
+pub record IsNaming (z : Sizes) (u : View) (j : Job) (t : Position) (byte : ℕ) (n : NodeOf) (s : Naming) (r : Room) (v : View) : Type 0 where
   pub early : View
   pub base : StillTries u early
   pub later : IsLater early v
   pub spent : HasSpent z u 21700 early
   pub has : HasHand z early r
-  pub job : m.job ≡ Remove
-  pub leaf : HasLeaf m.position r
-  pub leaves : LeavesOther z m.position r.read_set r.gone byte (node n)
-  pub fits : naming.Fits z r.row.key.items m.position n s r.read_set r.lower early v
+  pub job : j ≡ Remove
+  pub leaf : HasLeaf t r
+  pub leaves : LeavesOther z t r.read_set r.gone byte (node n)
+  pub fits : naming.Fits z r.row.key.items t n s r.read_set r.lower early v
 
 -- what is still to be read is read, and the cells are checked
-pub record IsValidating (z : Sizes) (u : View) (m : Attempt) (s : Validate) (r : Room) (v : View) : Type 0 where
+pub record IsValidating (z : Sizes) (u : View) (j : Job) (t : Position) (c : Case) (s : Validate) (r : Room) (v : View) : Type 0 where
   pub early : View
   pub base : StillTries u early
   pub later : IsLater early v
   pub spent : HasSpent z u 21702 early
   pub has : HasHand z early r
-  pub case : IsCaseOf m.job m.case
-  pub known : IsKnown z u m.case m.position r v
-  pub fits : validate.Fits z r.row.key.items m.position (cells_of m.case m.position.verdict) s r.read_set r.lower early v
+  pub case : IsCaseOf j c
+  pub known : IsKnown z u c t r v
+  pub fits : validate.Fits z r.row.key.items t (cells_of c t.verdict) s r.read_set r.lower early v
 
 -- the change is that of the case, which what was read and found tells; it unlinks what the case says, in that order
 pub record GoesBy (z : Sizes) (u : View) (t : Position) (c : Case) (r : Room) (v : View) : Type 0 where
@@ -291,31 +301,33 @@ pub record GoesBy (z : Sizes) (u : View) (t : Position) (c : Case) (r : Room) (v
   pub effects : r.change.effects ≡ effects_of c t r.row r.gone
 
 -- each cell that the change locks is one of this case, and was checked
-abbrev pub HasLocks : View → Attempt → Room → View → Type 0
-HasLocks u m r v = LocksOnly (LocksChecked u m.case m.position v) r.change
+abbrev pub HasLocks : View → Position → Case → Room → View → Type 0
+HasLocks u t c r v = LocksOnly (LocksChecked u c t v) r.change
 
 -- the change of the room may be made, and is that of the case
-pub record MayMake (z : Sizes) (u : View) (m : Attempt) (r : Room) (v : View) : Type 0 where
-  pub case : IsCaseOf m.job m.case
+pub record MayMake (z : Sizes) (u : View) (j : Job) (t : Position) (c : Case) (r : Room) (v : View) : Type 0 where
+  pub case : IsCaseOf j c
   pub planned : IsPlanned z v r.change
   pub leaf : (l : ℕ) → r.change.effects.leaf ≡ Some l → r.stock.leaf ≡ Some l
-  pub deed : r.change.effects.deed ≡ made_by m.job r.row r.gone
-  pub goes : GoesBy z u m.position m.case r v
-  pub locks : HasLocks u m r v
+  pub deed : r.change.effects.deed ≡ made_by j r.row r.gone
+  pub goes : GoesBy z u t c r v
+  pub locks : HasLocks u t c r v
 
--- the change is made
-pub record HasMade (z : Sizes) (u : View) (m : Attempt) (s : Apply) (r : Room) (v : View) : Type 0 where
+-- the change is made, of this place and in this case
+pub record HasMade (z : Sizes) (u : View) (j : Job) (s : Apply) (r : Room) (v : View) : Type 0 where
+  pub position : Position
+  pub chosen : Case
   pub early : View
   pub base : StillTries u early
   pub later : IsLater early v
   pub spent : HasSpent z u 22500 early
-  pub case : IsCaseOf m.job m.case
-  pub locks : HasLocks u m r v
-  pub goes : GoesBy z u m.position m.case r v
+  pub case : IsCaseOf j chosen
+  pub locks : HasLocks u position chosen r v
+  pub goes : GoesBy z u position chosen r v
   pub has : HasHand z early r
   pub plain : r.change.copy ≡ None
   pub leaf : (l : ℕ) → r.change.effects.leaf ≡ Some l → r.stock.leaf ≡ Some l
-  pub deed : r.change.effects.deed ≡ made_by m.job r.row r.gone
+  pub deed : r.change.effects.deed ≡ made_by j r.row r.gone
   pub fits : apply.Fits z r.change s early v
 
 abbrev pub free_at : Stage → Bool
@@ -421,8 +433,11 @@ EndsBy z u j t c r (Exhausted x) v = EndsSo z u r v × IsExhausted z u j t c r x
 EndsBy z u j t c r Overlaps v = (j ≡ Insert) × EndsSo z u r v × IsOverlap z u t r v
 EndsBy z u j t c r Restart v = EndsSo z u r v × (u.failures < v.failures)
 
-abbrev pub EndFits : Sizes → View → Attempt → Room → Ending → View → Type 0
-EndFits z u m r e v = EndsBy z u m.job m.position m.case r e v
+-- of the place and the case of which its end speaks
+pub record EndFits (z : Sizes) (u : View) (m : Attempt) (r : Room) (e : Ending) (v : View) : Type 0 where
+  pub position : Position
+  pub case : Case
+  pub ends : EndsBy z u m.job position case r e v
 
 -- ---- why it is tried anew
 
@@ -440,21 +455,25 @@ IsRestartBy s answer = goes_on answer ≡ false
 -- the place of the key was known, one where a key begins the other, and its check succeeded
 pub record IsOverlapBy (m : Attempt) (answer : Answer) : Type 0 where
   pub job : m.job ≡ Insert
-  pub finding : m.stage ≡ stage.Finding
+  pub by : Finding
+  pub finding : m.stage ≡ stage.Finding by
   pub position : Position
-  pub there : position_at m.finding ≡ Some position
+  pub there : position_at by ≡ Some position
   pub overlaps : position.verdict ≡ verdict.Overlaps
   pub succeeded : passed answer ≡ true
 
 -- ---- at each stage
 
+abbrev pub PartFits : Sizes → View → Job → Position → Part → Room → View → Type 0
+PartFits z u j t (part.Reserve c s) r v = HasSupplies z u j t c s r v × (reserve.ended_at s ≡ None)
+PartFits z u j t (part.Reading q) r v = IsReadingOn z u j t q r v × (q.place < size_of t.stamp.cell)
+PartFits z u j t (part.Naming byte n s) r v = IsNaming z u j t byte n s r v × (naming.ended_at s ≡ None)
+PartFits z u j t (part.Validate c s) r v = IsValidating z u j t c s r v × (validate.ended_at s ≡ None)
+
 abbrev pub StageFits : Sizes → View → Stage → Attempt → Room → View → Type 0
-StageFits z u stage.Finding m r v = IsFinding z u m r v
-StageFits z u (stage.Reserve s) m r v = HasSupplies z u m s r v × (reserve.ended_at s ≡ None)
-StageFits z u (stage.Reading q) m r v = IsReadingOn z u m q r v × (q.place < size_of m.position.stamp.cell)
-StageFits z u (stage.Naming byte n s) m r v = IsNaming z u m byte n s r v × (naming.ended_at s ≡ None)
-StageFits z u (stage.Validate s) m r v = IsValidating z u m s r v × (validate.ended_at s ≡ None)
-StageFits z u (stage.Apply s) m r v = HasMade z u m s r v × (apply.ended_at s ≡ None)
+StageFits z u (stage.Finding f) m r v = IsFinding z u m.job f r v
+StageFits z u (stage.Placed t q) m r v = PartFits z u m.job t q r v
+StageFits z u (stage.Apply s) m r v = HasMade z u m.job s r v × (apply.ended_at s ≡ None)
 StageFits z u (stage.Ended e) m r v = EndFits z u m r e v
 
 -- the room is one of a key

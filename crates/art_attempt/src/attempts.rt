@@ -1,10 +1,11 @@
 //! One attempt of a write, step by step.
 ghost use Rattle.std.specs.Prelude.{◌≡◌, ◌≢◌, ℕ, ◌+◌, ◌-◌, ◌<◌, ◌≤◌, length, Some, None, true};
 ghost use Rattle.art_attempt.specs.Asking.{Answers};
-ghost use Rattle.art_attempt.specs.Attempts.{Fits, IsOverlapBy, IsRestartBy, IsRoom, IsSameTry, asks, deed_at, ended_at, found_at, free_at, is_free, nowhere, steps_left};
+ghost use Rattle.art_attempt.specs.Attempts.{Fits, IsOverlapBy, IsRestartBy, IsRoom, IsSameTry, asks, deed_at, ended_at, found_at, free_at, is_free, steps_left, value_found};
 ghost use Rattle.art_attempt.specs.Trying.{StillTries};
 ghost use Rattle.art_attempt.specs.declared.attempts.Ending.TheVariants.{Restart as anew, Overlaps as overlaps};
 ghost use Rattle.art_epoch.specs.Stocks.{HasStock};
+ghost use Rattle.art_find.specs.Findings.{position_at};
 ghost use Rattle.art_machine.specs.Acting.{steps_in};
 ghost use Rattle.art_machine.specs.declared.actions.Action.{Action as ActionOf};
 ghost use Rattle.art_step.specs.declared.views.Sizes.{Sizes};
@@ -12,10 +13,10 @@ ghost use Rattle.art_step.specs.declared.views.View.{View};
 
 use crate::{Case, Naming, Reserve, Room, Validate};
 use art_cell::{Cell, Node, Pool};
-use art_find::{Finding, Position, Rereading, Verdict};
+use art_find::{Finding, Position, Rereading};
 use art_machine::{Action, Answer};
 use art_make::Apply;
-use art_step::{EpochSteps, Stamp};
+use art_step::EpochSteps;
 
 /// What a write does.
 #[derive(Clone, Copy)]
@@ -51,9 +52,19 @@ pub enum Ending {
 #[derive(Clone, Copy)]
 pub enum Stage {
     /// The place of the key is sought.
-    Finding,
-    /// Numbers come into the hand.
-    Reserve(Reserve),
+    Finding(Finding),
+    /// The place of the key was checked: what is done there.
+    Placed { position: Position, part: Part },
+    /// The change is made.
+    Apply(Apply),
+    Ended(Ending),
+}
+
+/// What is done where the key stands, before a change is made.
+#[derive(Clone, Copy)]
+pub enum Part {
+    /// Numbers come into the hand, for this change.
+    Reserve { case: Case, reserve: Reserve },
     /// The words of the node that are missing are read, to tell which child it keeps.
     Reading(Rereading),
     /// The node that takes the place of the one that goes is stamped, and that one, whose child it is at this byte, is checked.
@@ -62,11 +73,8 @@ pub enum Stage {
         node: Node,
         naming: Naming,
     },
-    /// What is still to be read is read, and the cells are checked.
-    Validate(Validate),
-    /// The change is made.
-    Apply(Apply),
-    Ended(Ending),
+    /// What is still to be read for this change is read, and the cells are checked.
+    Validate { case: Case, validate: Validate },
 }
 
 /// One attempt of a write, from the anchor down to its end. What is large stands beside it, in the room.
@@ -74,11 +82,6 @@ pub enum Stage {
 pub struct Attempt {
     pub(crate) job: Job,
     pub(crate) stage: Stage,
-    pub(crate) finding: Finding,
-    /// Where the key stands, once that is known.
-    pub(crate) position: Position,
-    /// What is changed, once that is known.
-    pub(crate) case: Case,
 }
 
 impl Attempt {
@@ -98,10 +101,7 @@ impl Attempt {
     {
         Attempt {
             job,
-            stage: Stage::Finding,
-            finding: Finding::new(),
-            position: nowhere(),
-            case: Case::NewLeaf,
+            stage: Stage::Finding(Finding::new()),
         }
     }
 
@@ -114,13 +114,10 @@ impl Attempt {
         ensures going { (z : Sizes) (u v : View) → Fits z u self.now room.now v → ended_at self.now ≡ None →
             (a : ActionOf) × (result ≡ Some a) }
     {
-        match self.stage {
-            Stage::Finding => self.find_next(),
-            Stage::Reserve(reserve) => self.supply_next(room, reserve),
-            Stage::Reading(rereading) => self.read_next(rereading),
-            Stage::Naming { naming, .. } => self.name_next(naming),
-            Stage::Validate(validate) => self.validate_next(validate),
-            Stage::Apply(apply) => self.make_next(room, apply),
+        match &self.stage {
+            Stage::Finding(finding) => self.find_next(finding),
+            Stage::Placed { position, part } => self.part_next(room, position, part),
+            Stage::Apply(apply) => self.make_next(room, *apply),
             Stage::Ended(_) => None,
         }
     }
@@ -139,13 +136,8 @@ impl Attempt {
         ensures overlaps { ended_at self.new ≡ Some overlaps → IsOverlapBy self.old answer }
     {
         match self.stage {
-            Stage::Finding => self.find_told(room, answer),
-            Stage::Reserve(reserve) => self.supply_told(room, reserve, answer),
-            Stage::Reading(rereading) => self.read_told(room, rereading, answer),
-            Stage::Naming { byte, node, naming } => self.name_told(
-                room, byte, node, naming, answer,
-            ),
-            Stage::Validate(validate) => self.validate_told(room, validate, answer),
+            Stage::Finding(finding) => self.find_told(room, finding, answer),
+            Stage::Placed { position, part } => self.part_told(room, &position, part, answer),
             Stage::Apply(apply) => self.make_told(room, apply, answer),
             Stage::Ended(_) => {}
         }
@@ -172,16 +164,13 @@ impl Attempt {
             return;
         }
         match self.stage {
-            Stage::Finding => {
+            Stage::Finding(_) => {
                 self.find_all(steps, room, left);
                 self.settle_on(steps, room, left);
             }
-            Stage::Reserve(reserve) => self.supply_all(steps, room, reserve, left),
-            Stage::Reading(_) => self.read_all(steps, room, left),
-            Stage::Validate(validate) => self.validate_all(steps, room, validate, left),
+            Stage::Placed { position, part } => self.part_all(steps, room, &position, part, left),
             Stage::Apply(apply) => self.make_all(steps, room, apply, left),
-            // a naming makes two steps at most
-            Stage::Naming { .. } | Stage::Ended(_) => {}
+            Stage::Ended(_) => {}
         }
     }
 
@@ -215,26 +204,20 @@ impl Attempt {
     pub(crate) fn found(&self) -> u64
         ensures { result ≡ found_at self.now }
     {
-        match self.finding.position() {
-            Some(position) => position.verdict.value().unwrap_or(0),
-            None => 0,
+        match &self.stage {
+            Stage::Finding(finding) => found_by(finding),
+            _ => 0,
         }
     }
 }
 
-/// A position that says nothing, where none is known yet.
-fn nowhere() -> Position
-    ensures { result ≡ nowhere }
+/// The value that was found on the way to the place, or 0 where there is none.
+fn found_by(finding: &Finding) -> u64
+    ensures { result ≡ value_found (position_at finding.now) }
 {
-    Position {
-        stamp: Stamp {
-            cell: Cell::Anchor,
-            version: 0,
-            first: 0,
-        },
-        depth: 0,
-        above: None,
-        verdict: Verdict::Absent,
+    match finding.position() {
+        Some(position) => position.verdict.value().unwrap_or(0),
+        None => 0,
     }
 }
 

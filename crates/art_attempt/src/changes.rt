@@ -5,9 +5,11 @@ ghost use Rattle.art_attempt.specs.Attempts.{ended_at, ended_so, is_free, steps_
 ghost use Rattle.art_attempt.specs.Attempts.{given_up, written};
 ghost use Rattle.art_attempt.specs.declared.attempts.Ending.TheVariants.{Restart as anew, Overlaps as overlaps};
 ghost use Rattle.art_attempt.specs.declared.attempts.Stage.TheVariants as stages;
+ghost use Rattle.art_attempt.specs.declared.cases.Case.{Case as CaseOf};
 ghost use Rattle.art_attempt.specs.declared.cases.Case.TheVariants as cases;
 ghost use Rattle.art_attempt.specs.declared.validate.Validate.TheVariants.{Ended as validated};
 ghost use Rattle.art_attempt.specs.declared.validate.Validated.TheVariants.{Unchanged as unchanged};
+ghost use Rattle.art_find.specs.declared.findings.Position.{Position as PositionOf};
 ghost use Rattle.art_machine.specs.Acting.{Answers as ActionAnswers, steps_in};
 ghost use Rattle.art_machine.specs.declared.actions.Action.{Action as ActionOf};
 ghost use Rattle.art_make.specs.Apply.{brings, ended_at as made_at, is_begun};
@@ -19,6 +21,7 @@ ghost use Rattle.art_step.specs.declared.views.View.{View};
 
 use crate::{Attempt, Case, Ending, Job, Room, Stage};
 use art_cell::Layout;
+use art_find::Position;
 use art_machine::{Action, Answer};
 use art_make::Apply;
 use art_plan::{
@@ -32,44 +35,43 @@ impl Attempt {
     ghost use Rattle.art_step.specs.declared.deeds.Deed.{Deed};
 
     /// All that is written was seen: the change is planned.
-    pub(crate) fn plan(&mut self, room: &mut Room)
+    pub(crate) fn plan(&mut self, room: &mut Room, position: &Position, case: Case)
         requires { (z : Sizes) × (u : View) × (v : View) × IsRoom z room.old ×
-            IsValidating z u self.old (validated unchanged) room.old v }
+            IsValidating z u self.old.job position.now case (validated unchanged) room.old v }
         ensures kept { IsSameTry self.old self.new room.old room.new }
         ensures not_anew { ended_at self.new ≢ Some anew }
         ensures not_overlaps { ended_at self.new ≢ Some overlaps }
         ensures free { is_free self.new ≡ true }
         ensures fits { (z : Sizes) (u v : View) → IsRoom z room.old →
-            IsValidating z u self.old (validated unchanged) room.old v → Fits z u self.new room.new v }
+            IsValidating z u self.old.job position.now case (validated unchanged) room.old v → Fits z u self.new room.new v }
     {
-        match self.case {
-            Case::NewLeaf => self.plan_new(room),
-            Case::DropLeaf => self.plan_stays(room),
-            Case::Shrink(layout) => self.plan_shrinks(room, layout),
-            Case::MergeLeaf(other) => self.plan_merges(room, other),
-            Case::MergeNode(lower) => self.plan_lowers(room, lower),
+        match case {
+            Case::NewLeaf => self.plan_new(room, position),
+            Case::DropLeaf => self.plan_stays(room, position),
+            Case::Shrink(layout) => self.plan_shrinks(room, position, layout),
+            Case::MergeLeaf(other) => self.plan_merges(room, position, other),
+            Case::MergeNode(lower) => self.plan_lowers(room, position, lower),
             // its check has failed
             Case::Torn => unreachable!(),
         }
     }
 
     /// A leaf comes.
-    fn plan_new(&mut self, room: &mut Room)
-        requires case { self.old.case ≡ cases.NewLeaf }
-        requires validated { (z : Sizes) × (u : View) × (v : View) × IsRoom z room.old ×
-            IsValidating z u self.old (validated unchanged) room.old v }
+    fn plan_new(&mut self, room: &mut Room, position: &Position)
+        requires { (z : Sizes) × (u : View) × (v : View) × IsRoom z room.old ×
+            IsValidating z u self.old.job position.now cases.NewLeaf (validated unchanged) room.old v }
         ensures kept { IsSameTry self.old self.new room.old room.new }
         ensures not_anew { ended_at self.new ≢ Some anew }
         ensures not_overlaps { ended_at self.new ≢ Some overlaps }
         ensures free { is_free self.new ≡ true }
         ensures fits { (z : Sizes) (u v : View) → IsRoom z room.old →
-            IsValidating z u self.old (validated unchanged) room.old v → Fits z u self.new room.new v }
+            IsValidating z u self.old.job position.now cases.NewLeaf (validated unchanged) room.old v → Fits z u self.new room.new v }
     {
         let Some(leaf) = room.stock.leaf() else {
             unreachable!();
         };
         room.row.number = leaf;
-        let made = room.number_for(needed(&self.position.verdict).node);
+        let made = room.number_for(needed(&position.verdict).node);
         let Room {
             row,
             read_set,
@@ -77,21 +79,20 @@ impl Attempt {
             change,
             ..
         } = room;
-        plan_insert(change, bodies, &self.position, read_set, row, made);
+        plan_insert(change, bodies, position, read_set, row, made);
         self.begin(room);
     }
 
     /// The leaf goes alone.
-    fn plan_stays(&mut self, room: &mut Room)
-        requires case { self.old.case ≡ cases.DropLeaf }
-        requires validated { (z : Sizes) × (u : View) × (v : View) × IsRoom z room.old ×
-            IsValidating z u self.old (validated unchanged) room.old v }
+    fn plan_stays(&mut self, room: &mut Room, position: &Position)
+        requires { (z : Sizes) × (u : View) × (v : View) × IsRoom z room.old ×
+            IsValidating z u self.old.job position.now cases.DropLeaf (validated unchanged) room.old v }
         ensures kept { IsSameTry self.old self.new room.old room.new }
         ensures not_anew { ended_at self.new ≢ Some anew }
         ensures not_overlaps { ended_at self.new ≢ Some overlaps }
         ensures free { is_free self.new ≡ true }
         ensures fits { (z : Sizes) (u v : View) → IsRoom z room.old →
-            IsValidating z u self.old (validated unchanged) room.old v → Fits z u self.new room.new v }
+            IsValidating z u self.old.job position.now cases.DropLeaf (validated unchanged) room.old v → Fits z u self.new room.new v }
     {
         let Room {
             gone,
@@ -100,21 +101,20 @@ impl Attempt {
             change,
             ..
         } = room;
-        plan_drop(change, bodies, &self.position, read_set, gone);
+        plan_drop(change, bodies, position, read_set, gone);
         self.begin(room);
     }
 
     /// The node gives way to a smaller one.
-    fn plan_shrinks(&mut self, room: &mut Room, layout: Layout)
-        requires case { self.old.case ≡ cases.Shrink layout }
-        requires validated { (z : Sizes) × (u : View) × (v : View) × IsRoom z room.old ×
-            IsValidating z u self.old (validated unchanged) room.old v }
+    fn plan_shrinks(&mut self, room: &mut Room, position: &Position, layout: Layout)
+        requires { (z : Sizes) × (u : View) × (v : View) × IsRoom z room.old ×
+            IsValidating z u self.old.job position.now (cases.Shrink layout) (validated unchanged) room.old v }
         ensures kept { IsSameTry self.old self.new room.old room.new }
         ensures not_anew { ended_at self.new ≢ Some anew }
         ensures not_overlaps { ended_at self.new ≢ Some overlaps }
         ensures free { is_free self.new ≡ true }
         ensures fits { (z : Sizes) (u v : View) → IsRoom z room.old →
-            IsValidating z u self.old (validated unchanged) room.old v → Fits z u self.new room.new v }
+            IsValidating z u self.old.job position.now (cases.Shrink layout) (validated unchanged) room.old v → Fits z u self.new room.new v }
     {
         let made = room.number_for(Some(layout));
         let Room {
@@ -124,21 +124,20 @@ impl Attempt {
             change,
             ..
         } = room;
-        plan_shrink(change, bodies, &self.position, read_set, gone, made);
+        plan_shrink(change, bodies, position, read_set, gone, made);
         self.begin(room);
     }
 
     /// The node gives way to its other child, a leaf.
-    fn plan_merges(&mut self, room: &mut Room, other: u32)
-        requires case { self.old.case ≡ cases.MergeLeaf other }
-        requires validated { (z : Sizes) × (u : View) × (v : View) × IsRoom z room.old ×
-            IsValidating z u self.old (validated unchanged) room.old v }
+    fn plan_merges(&mut self, room: &mut Room, position: &Position, other: u32)
+        requires { (z : Sizes) × (u : View) × (v : View) × IsRoom z room.old ×
+            IsValidating z u self.old.job position.now (cases.MergeLeaf other) (validated unchanged) room.old v }
         ensures kept { IsSameTry self.old self.new room.old room.new }
         ensures not_anew { ended_at self.new ≢ Some anew }
         ensures not_overlaps { ended_at self.new ≢ Some overlaps }
         ensures free { is_free self.new ≡ true }
         ensures fits { (z : Sizes) (u v : View) → IsRoom z room.old →
-            IsValidating z u self.old (validated unchanged) room.old v → Fits z u self.new room.new v }
+            IsValidating z u self.old.job position.now (cases.MergeLeaf other) (validated unchanged) room.old v → Fits z u self.new room.new v }
     {
         let Room {
             gone,
@@ -147,21 +146,20 @@ impl Attempt {
             change,
             ..
         } = room;
-        plan_merge_leaf(change, bodies, &self.position, read_set, gone, other);
+        plan_merge_leaf(change, bodies, position, read_set, gone, other);
         self.begin(room);
     }
 
     /// The node gives way to its other child, a node.
-    fn plan_lowers(&mut self, room: &mut Room, child: Lower)
-        requires case { self.old.case ≡ cases.MergeNode child }
-        requires validated { (z : Sizes) × (u : View) × (v : View) × IsRoom z room.old ×
-            IsValidating z u self.old (validated unchanged) room.old v }
+    fn plan_lowers(&mut self, room: &mut Room, position: &Position, child: Lower)
+        requires { (z : Sizes) × (u : View) × (v : View) × IsRoom z room.old ×
+            IsValidating z u self.old.job position.now (cases.MergeNode child) (validated unchanged) room.old v }
         ensures kept { IsSameTry self.old self.new room.old room.new }
         ensures not_anew { ended_at self.new ≢ Some anew }
         ensures not_overlaps { ended_at self.new ≢ Some overlaps }
         ensures free { is_free self.new ≡ true }
         ensures fits { (z : Sizes) (u v : View) → IsRoom z room.old →
-            IsValidating z u self.old (validated unchanged) room.old v → Fits z u self.new room.new v }
+            IsValidating z u self.old.job position.now (cases.MergeNode child) (validated unchanged) room.old v → Fits z u self.new room.new v }
     {
         let Room {
             gone,
@@ -172,7 +170,6 @@ impl Attempt {
             change,
             ..
         } = room;
-        let position = &self.position;
         if !plan_merge_node(
             change, bodies, lower_body, position, read_set, &child, lower, gone,
         ) {
@@ -189,8 +186,8 @@ impl Attempt {
         ensures not_anew { ended_at self.new ≢ Some anew }
         ensures not_overlaps { ended_at self.new ≢ Some overlaps }
         ensures free { is_free self.new ≡ true }
-        ensures fits { (z : Sizes) (u v : View) → IsRoom z room.now → EndsWithin z u 22500 room.now v → MayMake z u self.old room.now v →
-            Fits z u self.new room.now v }
+        ensures fits { (z : Sizes) (u v : View) (t : PositionOf) (c : CaseOf) → IsRoom z room.now → EndsWithin z u 22500 room.now v →
+            MayMake z u self.old.job t c room.now v → Fits z u self.new room.now v }
     {
         let apply = Apply::new(&room.change);
         self.stage = Stage::Apply(apply);
@@ -200,9 +197,9 @@ impl Attempt {
     #[inline(always)]
     pub(crate) fn make_next(&self, room: &Room, apply: Apply) -> Option<Action>
         ensures asks { result ≡ apply_asks apply room.now }
-        ensures allowed { (z : Sizes) (u v : View) (d : Deed) → HasMade z u self.now apply room.now v →
+        ensures allowed { (z : Sizes) (u v : View) (d : Deed) → HasMade z u self.now.job apply room.now v →
             IfSome result (IsAllowed z d room.now.change v) }
-        ensures going { (z : Sizes) (u v : View) → HasMade z u self.now apply room.now v → made_at apply ≡ None →
+        ensures going { (z : Sizes) (u v : View) → HasMade z u self.now.job apply room.now v → made_at apply ≡ None →
             (a : ActionOf) × (result ≡ Some a) }
     {
         apply.next(&room.change)
@@ -212,10 +209,10 @@ impl Attempt {
     #[inline(always)]
     pub(crate) fn make_told(&mut self, room: &mut Room, apply: Apply, answer: Answer)
         requires { (z : Sizes) × (u : View) × (v : View) × (w : View) × (asked : ActionOf) × IsRoom z room.old ×
-            HasMade z u self.old apply room.old v × (apply_asks apply room.old ≡ Some asked) ×
+            HasMade z u self.old.job apply room.old v × (apply_asks apply room.old ≡ Some asked) ×
             ActionAnswers z (brings room.old.change) asked answer v w }
         ensures kept { IsSameTry self.old self.new room.old room.new }
-        ensures fits { (z : Sizes) (u v w : View) (asked : ActionOf) → IsRoom z room.old → HasMade z u self.old apply room.old v →
+        ensures fits { (z : Sizes) (u v w : View) (asked : ActionOf) → IsRoom z room.old → HasMade z u self.old.job apply room.old v →
             apply_asks apply room.old ≡ Some asked → ActionAnswers z (brings room.old.change) asked answer v w →
             Fits z u self.new room.new w }
         ensures left { (left : ℕ) → (is_begun apply ≡ true → 0 < left) →
@@ -263,7 +260,7 @@ impl Attempt {
         ensures going { made_at apply ≡ None → self.new.stage ≡ stages.Apply apply }
         ensures ended { (made : Result ⊤ FaultOf) → made_at apply ≡ Some made →
             self.new.stage ≡ stages.Ended (ended_so self.old.job room.old.gone.value made) }
-        ensures fits { (z : Sizes) (u v : View) → IsRoom z room.old → HasMade z u self.old apply room.old v →
+        ensures fits { (z : Sizes) (u v : View) → IsRoom z room.old → HasMade z u self.old.job apply room.old v →
             Fits z u self.new room.new v }
     {
         match apply.ended() {
@@ -277,7 +274,7 @@ impl Attempt {
     fn made(&mut self, room: &mut Room, made: Result<(), UpgradeFault>)
         ensures kept { IsSameTry self.old self.new room.old room.new }
         ensures stage { self.new.stage ≡ stages.Ended (ended_so self.old.job room.old.gone.value made) }
-        ensures fits { (z : Sizes) (u v : View) (s : ApplyOf) → IsRoom z room.old → HasMade z u self.old s room.old v →
+        ensures fits { (z : Sizes) (u v : View) (s : ApplyOf) → IsRoom z room.old → HasMade z u self.old.job s room.old v →
             made_at s ≡ Some made → Fits z u self.new room.new v }
     {
         match made {

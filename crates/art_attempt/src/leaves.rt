@@ -1,11 +1,10 @@
 //! How an attempt tells what goes with a leaf, by the words of the node that names it.
 ghost use Rattle.std.specs.Prelude.{◌≡◌, ◌≢◌, ℕ, ◌+◌, ◌<◌, ◌≤◌, None, Some, true, false};
-ghost use Rattle.art_attempt.specs.Attempts.{EndsWithin, Fits, IsNaming, IsReadingOn, IsRoom, IsSameTry, asks_at, deed_at, ended_at, is_free};
+ghost use Rattle.art_attempt.specs.Attempts.{EndsWithin, Fits, IsNaming, IsReadingOn, IsRoom, IsSameTry, deed_at, ended_at, is_free};
 ghost use Rattle.art_attempt.specs.Attempts.{naming_asks, reading_asks};
 ghost use Rattle.art_attempt.specs.Cases.{HasLeaf, LeavesOther};
 ghost use Rattle.art_attempt.specs.declared.attempts.Ending.TheVariants.{Restart as anew, Overlaps as overlaps};
 ghost use Rattle.art_attempt.specs.declared.attempts.Job.TheVariants as jobs;
-ghost use Rattle.art_attempt.specs.declared.attempts.Stage.TheVariants as stages;
 ghost use Rattle.art_cell.specs.declared.cells.Link.TheVariants.{Node as node_link};
 ghost use Rattle.art_cell.specs.declared.cells.Node.{Node as NodeOf};
 ghost use Rattle.art_find.specs.Findings.{IsStanding};
@@ -21,9 +20,9 @@ ghost use Rattle.art_step.specs.Views.{size_of};
 ghost use Rattle.art_step.specs.declared.views.Sizes.{Sizes};
 ghost use Rattle.art_step.specs.declared.views.View.{View};
 
-use crate::{Attempt, Case, Ending, Named, Naming, Room, Stage};
+use crate::{Attempt, Case, Ending, Named, Naming, Part, Room, Stage};
 use art_cell::{Link, Node};
-use art_find::{ReadSet, Rereading, look};
+use art_find::{Position, ReadSet, Rereading, look};
 use art_machine::{Action, Answer};
 use art_plan::{Loss, Lower, lost, other_child};
 use art_step::EpochSteps;
@@ -36,65 +35,61 @@ impl Attempt {
 
     /// What comes next where the node is read on.
     #[inline(always)]
-    pub(crate) fn read_next(&self, rereading: Rereading) -> Option<Action>
-        ensures asks { (r : RoomOf) → result ≡ asks_at (stages.Reading rereading) self.now r }
-        ensures allowed { (z : Sizes) (u v : View) (r : RoomOf) (d : Deed) → IsReadingOn z u self.now rereading r v →
+    pub(crate) fn read_next(&self, position: &Position, rereading: Rereading) -> Option<Action>
+        ensures asks { result ≡ reading_asks position.now rereading }
+        ensures allowed { (z : Sizes) (u v : View) (r : RoomOf) (d : Deed) → IsReadingOn z u self.now.job position.now rereading r v →
             IfSome result (IsAllowed z d r.change v) }
-        ensures going { (z : Sizes) (u v : View) (r : RoomOf) → IsReadingOn z u self.now rereading r v →
-            rereading.place < size_of self.now.position.stamp.cell → (a : ActionOf) × (result ≡ Some a) }
+        ensures going { (z : Sizes) (u v : View) (r : RoomOf) → IsReadingOn z u self.now.job position.now rereading r v →
+            rereading.place < size_of position.now.stamp.cell → (a : ActionOf) × (result ≡ Some a) }
     {
-        rereading.next(self.position.stamp)
+        rereading.next(position.stamp)
     }
 
     /// The leaf is there, and its place was checked: what goes with it says what comes next.
-    pub(crate) fn choose(&mut self, room: &mut Room)
+    pub(crate) fn choose(&mut self, room: &mut Room, position: &Position)
         requires { (z : Sizes) × (u : View) × (v : View) × IsRoom z room.old × EndsWithin z u 1201 room.old v ×
-            HasLeaf self.old.position room.old }
+            HasLeaf position.now room.old }
         ensures kept { IsSameTry self.old self.new room.old room.new }
         ensures not_anew { ended_at self.new ≢ Some anew }
         ensures not_overlaps { ended_at self.new ≢ Some overlaps }
         ensures free { is_free self.new ≡ true }
         ensures fits { (z : Sizes) (u v : View) → IsRoom z room.old → EndsWithin z u 1201 room.old v → self.old.job ≡ jobs.Remove →
-            HasLeaf self.old.position room.old → IsStanding z room.old.row.key.items self.old.position room.old.read_set v →
+            HasLeaf position.now room.old → IsStanding z room.old.row.key.items position.now room.old.read_set v →
             Fits z u self.new room.new v }
     {
-        match self.loss(&room.read_set) {
-            Loss::Leaf => self.validate(room, Case::DropLeaf),
-            Loss::Shrinks(layout) => self.supply(room, Case::Shrink(layout)),
-            Loss::Merges => self.read_on(room, Rereading::new(room.read_set.node())),
+        match loss(position, &room.read_set) {
+            Loss::Leaf => self.validate(room, position, Case::DropLeaf),
+            Loss::Shrinks(layout) => self.supply(room, position, Case::Shrink(layout)),
+            Loss::Merges => self.read_on(room, position, Rereading::new(room.read_set.node())),
         }
     }
 
-    /// What goes with the leaf, by the words that were read.
-    fn loss(&self, read_set: &ReadSet) -> Loss
-        ensures { result ≡ loss_at self.now.position read_set.now }
-    {
-        lost(
-            self.position.stamp.cell,
-            read_set.node().get(1).unwrap_or(0),
-        )
-    }
-
     /// A word of the node was read. Where its header was not known before, it is now, and may tell that the node stays, or shrinks.
-    pub(crate) fn read_told(&mut self, room: &mut Room, rereading: Rereading, answer: Answer)
-        requires more { rereading.place < size_of self.old.position.stamp.cell }
+    pub(crate) fn read_told(
+        &mut self,
+        room: &mut Room,
+        position: &Position,
+        rereading: Rereading,
+        answer: Answer,
+    )
+        requires more { rereading.place < size_of position.now.stamp.cell }
         requires told { (z : Sizes) × (u : View) × (v : View) × (w : View) × (asked : ActionOf) × IsRoom z room.old ×
-            IsReadingOn z u self.old rereading room.old v × (reading_asks self.old rereading ≡ Some asked) ×
+            IsReadingOn z u self.old.job position.now rereading room.old v × (reading_asks position.now rereading ≡ Some asked) ×
             ActionAnswers z (telling (deed_at self.old room.old)) asked answer v w }
         ensures kept { IsSameTry self.old self.new room.old room.new }
         ensures not_anew { ended_at self.new ≢ Some anew }
         ensures not_overlaps { ended_at self.new ≢ Some overlaps }
         ensures free { is_free self.new ≡ true }
         ensures fits { (z : Sizes) (u v w : View) (asked : ActionOf) → IsRoom z room.old →
-            IsReadingOn z u self.old rereading room.old v → reading_asks self.old rereading ≡ Some asked →
+            IsReadingOn z u self.old.job position.now rereading room.old v → reading_asks position.now rereading ≡ Some asked →
             ActionAnswers z (telling (deed_at self.old room.old)) asked answer v w → Fits z u self.new room.new w }
     {
         let mut rereading = rereading;
         room.read_set.reread_node(&mut rereading, answer.found());
-        match self.loss(&room.read_set) {
-            Loss::Leaf => self.validate(room, Case::DropLeaf),
-            Loss::Shrinks(layout) => self.supply(room, Case::Shrink(layout)),
-            Loss::Merges => self.read_on(room, rereading),
+        match loss(position, &room.read_set) {
+            Loss::Leaf => self.validate(room, position, Case::DropLeaf),
+            Loss::Shrinks(layout) => self.supply(room, position, Case::Shrink(layout)),
+            Loss::Merges => self.read_on(room, position, rereading),
         }
     }
 
@@ -115,141 +110,152 @@ impl Attempt {
             Fits (S.sizes steps.old) u self.new room.new (S.view steps.new) }
     {
         while *left > 1 {
-            let Stage::Reading(rereading) = self.stage else {
+            let Stage::Placed { position, part } = self.stage else {
                 return;
             };
-            let Some(asked) = rereading.next(self.position.stamp) else {
+            let Part::Reading(rereading) = part else {
+                return;
+            };
+            let Some(asked) = rereading.next(position.stamp) else {
                 return;
             };
             let Some(answer) = look(steps, asked) else {
                 return;
             };
             *left -= 1;
-            self.read_told(room, rereading, answer);
+            self.read_told(room, &position, rereading, answer);
         }
     }
 
     /// The node is read on, or all its words are known: it goes, and gives way to its other child.
-    fn read_on(&mut self, room: &Room, rereading: Rereading)
-        requires { HasLeaf self.old.position room.now }
+    fn read_on(&mut self, room: &Room, position: &Position, rereading: Rereading)
+        requires { HasLeaf position.now room.now }
         ensures job { self.new.job ≡ self.old.job }
         ensures not_anew { ended_at self.new ≢ Some anew }
         ensures not_overlaps { ended_at self.new ≢ Some overlaps }
         ensures free { is_free self.new ≡ true }
-        ensures fits { (z : Sizes) (u v : View) → IsRoom z room.now → IsReadingOn z u self.old rereading room.now v →
+        ensures fits { (z : Sizes) (u v : View) → IsRoom z room.now → IsReadingOn z u self.old.job position.now rereading room.now v →
             Fits z u self.new room.now v }
     {
-        match rereading.next(self.position.stamp) {
-            Some(_) => self.stage = Stage::Reading(rereading),
-            None => self.merge(room),
+        match rereading.next(position.stamp) {
+            Some(_) => self.go_on(position, Part::Reading(rereading)),
+            None => self.merge(room, position),
         }
     }
 
     /// The node gives way to its other child.
-    fn merge(&mut self, room: &Room)
-        requires { HasLeaf self.old.position room.now }
+    fn merge(&mut self, room: &Room, position: &Position)
+        requires { HasLeaf position.now room.now }
         ensures job { self.new.job ≡ self.old.job }
         ensures not_anew { ended_at self.new ≢ Some anew }
         ensures not_overlaps { ended_at self.new ≢ Some overlaps }
         ensures free { is_free self.new ≡ true }
         ensures fits { (z : Sizes) (u v : View) → IsRoom z room.now → EndsWithin z u 21700 room.now v → self.old.job ≡ jobs.Remove →
-            IsStanding z room.now.row.key.items self.old.position room.now.read_set v → KnowsHere self.old.position room.now.read_set →
-            loss_at self.old.position room.now.read_set ≡ losses.Merges → Fits z u self.new room.now v }
+            IsStanding z room.now.row.key.items position.now room.now.read_set v → KnowsHere position.now room.now.read_set →
+            loss_at position.now room.now.read_set ≡ losses.Merges → Fits z u self.new room.now v }
     {
-        let Some((byte, link)) = other_child(&self.position, &room.read_set, &room.gone) else {
-            self.validate(room, Case::Torn);
+        let Some((byte, link)) = other_child(position, &room.read_set, &room.gone) else {
+            self.validate(room, position, Case::Torn);
             return;
         };
         match link {
-            Link::Leaf(other) => self.validate(room, Case::MergeLeaf(other)),
-            Link::Node(node) => self.name(byte, node),
+            Link::Leaf(other) => self.validate(room, position, Case::MergeLeaf(other)),
+            Link::Node(node) => self.name(position, byte, node),
         }
     }
 
     /// That node is stamped, and the node that names it is checked.
-    fn name(&mut self, byte: u8, node: Node)
+    fn name(&mut self, position: &Position, byte: u8, node: Node)
         ensures job { self.new.job ≡ self.old.job }
         ensures not_anew { ended_at self.new ≢ Some anew }
         ensures not_overlaps { ended_at self.new ≢ Some overlaps }
         ensures free { is_free self.new ≡ true }
         ensures fits { (z : Sizes) (u v : View) (r : RoomOf) → IsRoom z r → EndsWithin z u 21700 r v → self.old.job ≡ jobs.Remove →
-            HasLeaf self.old.position r → IsStanding z r.row.key.items self.old.position r.read_set v →
-            KnowsHere self.old.position r.read_set → loss_at self.old.position r.read_set ≡ losses.Merges →
-            NamesChild self.old.position r.read_set (node_link node) →
-            LeavesOther z self.old.position r.read_set r.gone byte (node_link node) → Fits z u self.new r v }
+            HasLeaf position.now r → IsStanding z r.row.key.items position.now r.read_set v → KnowsHere position.now r.read_set →
+            loss_at position.now r.read_set ≡ losses.Merges → NamesChild position.now r.read_set (node_link node) →
+            LeavesOther z position.now r.read_set r.gone byte (node_link node) → Fits z u self.new r v }
     {
-        self.stage = Stage::Naming {
-            byte,
-            node,
-            naming: Naming::new(node),
-        };
+        let naming = Naming::new(node);
+        self.go_on(position, Part::Naming { byte, node, naming });
     }
 
     /// What comes next where that node is stamped.
     #[inline(always)]
-    pub(crate) fn name_next(&self, naming: Naming) -> Option<Action>
-        ensures asks { result ≡ naming_asks self.now naming }
+    pub(crate) fn name_next(&self, position: &Position, naming: Naming) -> Option<Action>
+        ensures asks { result ≡ naming_asks position.now naming }
         ensures allowed { (z : Sizes) (u v : View) (byte : ℕ) (n : NodeOf) (r : RoomOf) (d : Deed) →
-            IsNaming z u self.now byte n naming r v → IfSome result (IsAllowed z d r.change v) }
+            IsNaming z u self.now.job position.now byte n naming r v → IfSome result (IsAllowed z d r.change v) }
         ensures going { named_at naming ≡ None → (a : ActionOf) × (result ≡ Some a) }
     {
-        naming.next(&self.position)
+        naming.next(position)
     }
 
     /// The node below was stamped, or the one that names it was checked.
     pub(crate) fn name_told(
         &mut self,
         room: &mut Room,
+        position: &Position,
         byte: u8,
         node: Node,
         naming: Naming,
         answer: Answer,
     )
         requires { (z : Sizes) × (u : View) × (v : View) × (w : View) × (asked : ActionOf) × IsRoom z room.old ×
-            IsNaming z u self.old byte node naming room.old v × (naming_asks self.old naming ≡ Some asked) ×
+            IsNaming z u self.old.job position.now byte node naming room.old v × (naming_asks position.now naming ≡ Some asked) ×
             ActionAnswers z (telling (deed_at self.old room.old)) asked answer v w }
         ensures kept { IsSameTry self.old self.new room.old room.new }
         ensures anew { ended_at self.new ≡ Some anew → goes_on answer ≡ false }
         ensures not_overlaps { ended_at self.new ≢ Some overlaps }
         ensures free { is_free self.new ≡ true }
         ensures fits { (z : Sizes) (u v w : View) (asked : ActionOf) → IsRoom z room.old →
-            IsNaming z u self.old byte node naming room.old v → naming_asks self.old naming ≡ Some asked →
+            IsNaming z u self.old.job position.now byte node naming room.old v → naming_asks position.now naming ≡ Some asked →
             ActionAnswers z (telling (deed_at self.old room.old)) asked answer v w → Fits z u self.new room.new w }
     {
         let mut naming = naming;
         naming.told(&mut room.lower, answer);
-        self.name_on(room, byte, node, naming);
+        self.name_on(room, position, byte, node, naming);
     }
 
     /// It goes on; or the node below is known by its stamp, and the cells are validated; or a cell was changed.
-    fn name_on(&mut self, room: &Room, byte: u8, node: Node, naming: Naming)
+    fn name_on(&mut self, room: &Room, position: &Position, byte: u8, node: Node, naming: Naming)
         ensures job { self.new.job ≡ self.old.job }
         ensures anew { ended_at self.new ≡ Some anew → named_at naming ≡ Some changed_name }
         ensures not_overlaps { ended_at self.new ≢ Some overlaps }
         ensures free { is_free self.new ≡ true }
-        ensures fits { (z : Sizes) (u v : View) → IsRoom z room.now → IsNaming z u self.old byte node naming room.now v →
-            Fits z u self.new room.now v }
+        ensures fits { (z : Sizes) (u v : View) → IsRoom z room.now →
+            IsNaming z u self.old.job position.now byte node naming room.now v → Fits z u self.new room.now v }
     {
         match naming.ended() {
-            None => self.stage = Stage::Naming { byte, node, naming },
-            Some(named) => self.named(room, byte, node, named),
+            None => self.go_on(position, Part::Naming { byte, node, naming }),
+            Some(named) => self.named(room, position, byte, node, named),
         }
     }
 
     /// The naming has ended so: the cells are validated, with the node below, or a cell was changed.
-    fn named(&mut self, room: &Room, byte: u8, node: Node, named: Named)
+    fn named(&mut self, room: &Room, position: &Position, byte: u8, node: Node, named: Named)
         ensures job { self.new.job ≡ self.old.job }
         ensures anew { ended_at self.new ≡ Some anew → named ≡ changed_name }
         ensures not_overlaps { ended_at self.new ≢ Some overlaps }
         ensures free { is_free self.new ≡ true }
-        ensures fits { (z : Sizes) (u v : View) (s : NamingOf) → IsRoom z room.now → IsNaming z u self.old byte node s room.now v →
-            named_at s ≡ Some named → Fits z u self.new room.now v }
+        ensures fits { (z : Sizes) (u v : View) (s : NamingOf) → IsRoom z room.now →
+            IsNaming z u self.old.job position.now byte node s room.now v → named_at s ≡ Some named → Fits z u self.new room.now v }
     {
         match named {
             Named::Unchanged(stamp) => {
-                self.validate(room, Case::MergeNode(Lower { stamp, node, byte }))
+                let lower = Lower { stamp, node, byte };
+                self.validate(room, position, Case::MergeNode(lower))
             }
             Named::Changed => self.stage = Stage::Ended(Ending::Restart),
         }
     }
+}
+
+/// What goes with the leaf, by the words that were read.
+fn loss(position: &Position, read_set: &ReadSet) -> Loss
+    ensures { result ≡ loss_at position.now read_set.now }
+{
+    lost(
+        position.stamp.cell,
+        read_set.node().get(1).unwrap_or(0),
+    )
 }

@@ -105,6 +105,7 @@ mod changes;
 mod driver;
 mod leaves;
 mod naming;
+mod parts;
 mod places;
 mod reserve;
 mod rooms;
@@ -112,7 +113,7 @@ mod supplies;
 mod validate;
 
 pub use art_plan;
-pub use attempts::{Attempt, Ending, Job, Stage};
+pub use attempts::{Attempt, Ending, Job, Part, Stage};
 pub use cases::Case;
 pub use driver::make;
 pub use naming::{Named, Naming};

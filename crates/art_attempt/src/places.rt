@@ -1,6 +1,6 @@
 //! How an attempt finds the place of its key, and what the check of that place tells.
 ghost use Rattle.std.specs.Prelude.{◌≡◌, ◌≢◌, ℕ, ◌+◌, ◌<◌, ◌≤◌, None, Some, true, false};
-ghost use Rattle.art_attempt.specs.Attempts.{Fits, IsFinding, IsOverlapBy, IsRoom, IsSameTry, WasPlaced, asks_at, check_of, deed_at, ended_at, entered_by};
+ghost use Rattle.art_attempt.specs.Attempts.{Fits, IsFinding, IsOverlapBy, IsRoom, IsSameTry, WasPlaced, check_of, deed_by, ended_at, entered_by};
 ghost use Rattle.art_attempt.specs.Attempts.{finding_asks, is_free, settles};
 ghost use Rattle.art_attempt.specs.declared.attempts.Ending.TheVariants.{Restart as anew, Overlaps as overlaps};
 ghost use Rattle.art_attempt.specs.declared.attempts.Job.TheVariants as jobs;
@@ -21,67 +21,70 @@ impl Attempt {
     ghost use Rattle.std.specs.Prelude.{IfSome};
     ghost use Rattle.art_attempt.specs.Asking.{IsAllowed};
     ghost use Rattle.art_attempt.specs.declared.rooms.Room.{Room as RoomOf};
+    ghost use Rattle.art_find.specs.declared.findings.Finding.{Finding as FindingOf};
 
     /// What comes next on the way to the place of the key, and its check.
     #[inline(always)]
-    pub(crate) fn find_next(&self) -> Option<Action>
-        ensures asks { (r : RoomOf) → result ≡ asks_at stages.Finding self.now r }
-        ensures allowed { (z : Sizes) (u v : View) (r : RoomOf) → IsFinding z u self.now r v →
-            IfSome result (IsAllowed z (deed_at self.now r) r.change v) }
-        ensures going { (z : Sizes) (u v : View) (r : RoomOf) → IsFinding z u self.now r v → (a : ActionOf) × (result ≡ Some a) }
+    pub(crate) fn find_next(&self, finding: &Finding) -> Option<Action>
+        ensures asks { result ≡ finding_asks self.now.job finding.now }
+        ensures allowed { (z : Sizes) (u v : View) (r : RoomOf) → IsFinding z u self.now.job finding.now r v →
+            IfSome result (IsAllowed z (deed_by self.now.job finding.now r) r.change v) }
+        ensures going { (z : Sizes) (u v : View) (r : RoomOf) → IsFinding z u self.now.job finding.now r v →
+            (a : ActionOf) × (result ≡ Some a) }
     {
-        finding_asked(self.job, &self.finding)
+        finding_asked(self.job, finding)
     }
 
     /// A cell was looked at on the way to the place of the key.
-    pub(crate) fn find_told(&mut self, room: &mut Room, answer: Answer)
-        requires stage { self.old.stage ≡ stages.Finding }
+    pub(crate) fn find_told(&mut self, room: &mut Room, finding: Finding, answer: Answer)
+        requires stage { self.old.stage ≡ stages.Finding finding }
         requires told { (z : Sizes) × (u : View) × (v : View) × (w : View) × (asked : ActionOf) × IsRoom z room.old ×
-            IsFinding z u self.old room.old v × (finding_asks self.old.job self.old.finding ≡ Some asked) ×
-            ActionAnswers z (telling (deed_at self.old room.old)) asked answer v w }
+            IsFinding z u self.old.job finding room.old v × (finding_asks self.old.job finding ≡ Some asked) ×
+            ActionAnswers z (telling (deed_by self.old.job finding room.old)) asked answer v w }
         ensures kept { IsSameTry self.old self.new room.old room.new }
         ensures anew { ended_at self.new ≡ Some anew → goes_on answer ≡ false }
         ensures overlaps { ended_at self.new ≡ Some overlaps → IsOverlapBy self.old answer }
         ensures free { is_free self.new ≡ true }
-        ensures fits { (z : Sizes) (u v w : View) (asked : ActionOf) → IsRoom z room.old → IsFinding z u self.old room.old v →
-            finding_asks self.old.job self.old.finding ≡ Some asked →
-            ActionAnswers z (telling (deed_at self.old room.old)) asked answer v w → Fits z u self.new room.new w }
+        ensures fits { (z : Sizes) (u v w : View) (asked : ActionOf) → IsRoom z room.old →
+            IsFinding z u self.old.job finding room.old v → finding_asks self.old.job finding ≡ Some asked →
+            ActionAnswers z (telling (deed_by self.old.job finding room.old)) asked answer v w → Fits z u self.new room.new w }
     {
-        match self.finding.position() {
-            Some(position) => self.settled(room, position, answer),
-            None => self.find_on(room, answer),
+        match finding.position() {
+            Some(position) => self.settled(room, &position, answer),
+            None => self.find_on(room, finding, answer),
         }
     }
 
     /// The descent goes on, or its way was changed.
     #[inline(always)]
-    fn find_on(&mut self, room: &mut Room, answer: Answer)
-        requires stage { self.old.stage ≡ stages.Finding }
-        requires nowhere { position_at self.old.finding ≡ None }
+    fn find_on(&mut self, room: &mut Room, finding: Finding, answer: Answer)
+        requires nowhere { position_at finding ≡ None }
         requires told { (z : Sizes) × (u : View) × (v : View) × (w : View) × (asked : ActionOf) × IsRoom z room.old ×
-            IsFinding z u self.old room.old v × (finding_asks self.old.job self.old.finding ≡ Some asked) ×
-            ActionAnswers z (telling (deed_at self.old room.old)) asked answer v w }
+            IsFinding z u self.old.job finding room.old v × (finding_asks self.old.job finding ≡ Some asked) ×
+            ActionAnswers z (telling (deed_by self.old.job finding room.old)) asked answer v w }
         ensures kept { IsSameTry self.old self.new room.old room.new }
         ensures anew { ended_at self.new ≡ Some anew → goes_on answer ≡ false }
         ensures not_overlaps { ended_at self.new ≢ Some overlaps }
         ensures free { is_free self.new ≡ true }
-        ensures fits { (z : Sizes) (u v w : View) (asked : ActionOf) → IsRoom z room.old → IsFinding z u self.old room.old v →
-            finding_asks self.old.job self.old.finding ≡ Some asked →
-            ActionAnswers z (telling (deed_at self.old room.old)) asked answer v w → Fits z u self.new room.new w }
+        ensures fits { (z : Sizes) (u v w : View) (asked : ActionOf) → IsRoom z room.old →
+            IsFinding z u self.old.job finding room.old v → finding_asks self.old.job finding ≡ Some asked →
+            ActionAnswers z (telling (deed_by self.old.job finding room.old)) asked answer v w → Fits z u self.new room.new w }
     {
-        let on = self
-            .finding
-            .told(&mut room.read_set, room.row.key.as_slice(), answer);
-        if !on {
+        let mut finding = finding;
+        let on = finding.told(&mut room.read_set, room.row.key.as_slice(), answer);
+        if on {
+            self.stage = Stage::Finding(finding);
+        } else {
             self.stage = Stage::Ended(Ending::Restart);
         }
     }
 
     /// Makes steps until the place of the key is known, or its way was changed, as long as more than one turn is left.
     pub(crate) fn find_all<S: EpochSteps>(&mut self, steps: &mut S, room: &mut Room, left: &mut u32)
-        requires stage { self.old.stage ≡ stages.Finding }
         requires turn { 0 < left.old }
         requires fits { (u : View) × Fits (S.sizes steps.old) u self.old room.old (S.view steps.old) }
+        requires free { is_free self.old ≡ true }
+        requires not_overlaps { ended_at self.old ≢ Some overlaps }
         ensures only { S.only steps.old steps.new }
         ensures kept { IsSameTry self.old self.new room.old room.new }
         ensures free { is_free self.new ≡ true }
@@ -92,8 +95,11 @@ impl Attempt {
         ensures fits { (u : View) → Fits (S.sizes steps.old) u self.old room.old (S.view steps.old) →
             Fits (S.sizes steps.old) u self.new room.new (S.view steps.new) }
     {
+        let Stage::Finding(finding) = &mut self.stage else {
+            return;
+        };
         let key = room.row.key.as_slice();
-        let on = self.finding.descend(steps, &mut room.read_set, key, left);
+        let on = finding.descend(steps, &mut room.read_set, key, left);
         if !on {
             self.stage = Stage::Ended(Ending::Restart);
         }
@@ -121,10 +127,10 @@ impl Attempt {
         ensures fits { (u : View) → Fits (S.sizes steps.old) u self.old room.old (S.view steps.old) →
             Fits (S.sizes steps.old) u self.new room.new (S.view steps.new) }
     {
-        let Stage::Finding = self.stage else {
+        let Stage::Finding(finding) = self.stage else {
             return;
         };
-        let Some(position) = self.finding.position() else {
+        let Some(position) = finding.position() else {
             return;
         };
         if *left <= 1 || matches!(position.verdict, Verdict::Overlaps) {
@@ -134,65 +140,68 @@ impl Attempt {
             return;
         };
         *left -= 1;
-        self.settled(room, position, answer);
+        self.settled(room, &position, answer);
     }
 
     /// The place of the key was checked.
-    fn settled(&mut self, room: &mut Room, position: Position, answer: Answer)
-        requires { (z : Sizes) × (u : View) × (v : View) × (w : View) × IsRoom z room.old × IsFinding z u self.old room.old v ×
-            (position_at self.old.finding ≡ Some position) ×
-            ActionAnswers z (telling (deed_at self.old room.old)) (check_of self.old.job position) answer v w }
+    fn settled(&mut self, room: &mut Room, position: &Position, answer: Answer)
+        requires { (z : Sizes) × (u : View) × (v : View) × (w : View) × (f : FindingOf) × IsRoom z room.old ×
+            IsFinding z u self.old.job f room.old v × (position_at f ≡ Some position.now) ×
+            ActionAnswers z (telling (deed_by self.old.job f room.old)) (check_of self.old.job position.now) answer v w }
         ensures kept { IsSameTry self.old self.new room.old room.new }
         ensures anew { ended_at self.new ≡ Some anew → goes_on answer ≡ false }
         ensures overlaps { ended_at self.new ≡ Some overlaps →
-            (self.old.job ≡ jobs.Insert) × (position.verdict ≡ verdicts.Overlaps) × (passed answer ≡ true) }
+            (self.old.job ≡ jobs.Insert) × (position.now.verdict ≡ verdicts.Overlaps) × (passed answer ≡ true) }
         ensures free { is_free self.new ≡ true }
-        ensures fits { (z : Sizes) (u v w : View) → IsRoom z room.old → IsFinding z u self.old room.old v →
-            position_at self.old.finding ≡ Some position →
-            ActionAnswers z (telling (deed_at self.old room.old)) (check_of self.old.job position) answer v w →
+        ensures fits { (z : Sizes) (u v w : View) (f : FindingOf) → IsRoom z room.old → IsFinding z u self.old.job f room.old v →
+            position_at f ≡ Some position.now →
+            ActionAnswers z (telling (deed_by self.old.job f room.old)) (check_of self.old.job position.now) answer v w →
             Fits z u self.new room.new w }
     {
         if !answer.passed() {
             self.stage = Stage::Ended(Ending::Restart);
             return;
         }
-        self.position = position;
         match self.job {
-            Job::Insert => self.enter(room),
-            Job::Remove => self.leave(room),
+            Job::Insert => self.enter(room, position),
+            Job::Remove => self.leave(room, position),
         }
     }
 
     /// The place of a row that comes was checked: the key is there, or begins another, or a leaf may come.
-    fn enter(&mut self, room: &mut Room)
+    fn enter(&mut self, room: &mut Room, position: &Position)
         requires job { self.old.job ≡ jobs.Insert }
-        requires placed { (z : Sizes) × (u : View) × (v : View) × (w : View) × IsRoom z room.old × WasPlaced z u self.old room.old v w }
+        requires placed { (z : Sizes) × (u : View) × (v : View) × (w : View) × IsRoom z room.old ×
+            WasPlaced z u self.old.job position.now room.old v w }
         ensures kept { IsSameTry self.old self.new room.old room.new }
         ensures not_anew { ended_at self.new ≢ Some anew }
-        ensures overlaps { ended_at self.new ≡ Some overlaps → self.old.position.verdict ≡ verdicts.Overlaps }
+        ensures overlaps { ended_at self.new ≡ Some overlaps → position.now.verdict ≡ verdicts.Overlaps }
         ensures free { is_free self.new ≡ true }
-        ensures fits { (z : Sizes) (u v w : View) → IsRoom z room.old → WasPlaced z u self.old room.old v w → Fits z u self.new room.new w }
+        ensures fits { (z : Sizes) (u v w : View) → IsRoom z room.old → WasPlaced z u self.old.job position.now room.old v w →
+            Fits z u self.new room.new w }
     {
-        match entered_by(&self.position.verdict) {
+        match entered_by(&position.verdict) {
             Some(ending) => self.stage = Stage::Ended(ending),
-            None => self.supply(room, Case::NewLeaf),
+            None => self.supply(room, position, Case::NewLeaf),
         }
     }
 
     /// The place of a row that goes was checked: a leaf has its key, or none has.
-    fn leave(&mut self, room: &mut Room)
+    fn leave(&mut self, room: &mut Room, position: &Position)
         requires job { self.old.job ≡ jobs.Remove }
-        requires placed { (z : Sizes) × (u : View) × (v : View) × (w : View) × IsRoom z room.old × WasPlaced z u self.old room.old v w }
+        requires placed { (z : Sizes) × (u : View) × (v : View) × (w : View) × IsRoom z room.old ×
+            WasPlaced z u self.old.job position.now room.old v w }
         ensures kept { IsSameTry self.old self.new room.old room.new }
         ensures not_anew { ended_at self.new ≢ Some anew }
         ensures not_overlaps { ended_at self.new ≢ Some overlaps }
         ensures free { is_free self.new ≡ true }
-        ensures fits { (z : Sizes) (u v w : View) → IsRoom z room.old → WasPlaced z u self.old room.old v w → Fits z u self.new room.new w }
+        ensures fits { (z : Sizes) (u v w : View) → IsRoom z room.old → WasPlaced z u self.old.job position.now room.old v w →
+            Fits z u self.new room.new w }
     {
-        match self.position.verdict {
+        match position.verdict {
             Verdict::Found { leaf, value } => {
                 room.found(leaf, value);
-                self.choose(room);
+                self.choose(room, position);
             }
             _ => self.stage = Stage::Ended(Ending::Absent),
         }

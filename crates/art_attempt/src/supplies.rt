@@ -4,8 +4,11 @@ ghost use Rattle.art_attempt.specs.Attempts.{EndsWithin, Fits, HasSupplies, IsKn
 ghost use Rattle.art_attempt.specs.Attempts.{ended_at, is_free, supply_asks, validate_asks};
 ghost use Rattle.art_attempt.specs.Cases.{IsCaseOf, cells_of};
 ghost use Rattle.art_attempt.specs.declared.attempts.Ending.TheVariants.{Restart as anew, Overlaps as overlaps};
+ghost use Rattle.art_attempt.specs.declared.attempts.Part.TheVariants as parts;
 ghost use Rattle.art_attempt.specs.declared.attempts.Stage.TheVariants as stages;
+ghost use Rattle.art_attempt.specs.declared.cases.Case.{Case as CaseOf};
 ghost use Rattle.art_find.specs.Findings.{IsStanding};
+ghost use Rattle.art_find.specs.declared.findings.Position.{Position as PositionOf};
 ghost use Rattle.art_attempt.specs.Reserve.{ended_at as reserved_at};
 ghost use Rattle.art_attempt.specs.Validate.{BelowFits, ended_at as validated_at};
 ghost use Rattle.art_attempt.specs.declared.reserve.Reserve.{Reserve as ReserveOf};
@@ -17,8 +20,9 @@ ghost use Rattle.art_machine.specs.declared.actions.Action.{Action as ActionOf};
 ghost use Rattle.art_step.specs.declared.views.Sizes.{Sizes};
 ghost use Rattle.art_step.specs.declared.views.View.{View};
 
-use crate::{Attempt, Case, Ending, Job, Reserve, Reserved, Room, Stage, Validate, Validated};
+use crate::{Attempt, Case, Ending, Job, Part, Reserve, Reserved, Room, Stage, Validate, Validated};
 use art_cell::Pool;
+use art_find::Position;
 use art_machine::{Action, Answer};
 use art_step::EpochSteps;
 
@@ -33,49 +37,56 @@ impl Attempt {
     pub(crate) fn supply_next(&self, room: &Room, reserve: Reserve) -> Option<Action>
         requires short { length room.now.row.key.items ≤ 64 }
         ensures asks { result ≡ supply_asks reserve room.now }
-        ensures allowed { (z : Sizes) (u v : View) (d : Deed) → HasSupplies z u self.now reserve room.now v →
-            IfSome result (IsAllowed z d room.now.change v) }
-        ensures going { (z : Sizes) (u v : View) → HasSupplies z u self.now reserve room.now v → reserved_at reserve ≡ None →
-            (a : ActionOf) × (result ≡ Some a) }
+        ensures allowed { (z : Sizes) (u v : View) (t : PositionOf) (c : CaseOf) (d : Deed) →
+            HasSupplies z u self.now.job t c reserve room.now v → IfSome result (IsAllowed z d room.now.change v) }
+        ensures going { (z : Sizes) (u v : View) (t : PositionOf) (c : CaseOf) → HasSupplies z u self.now.job t c reserve room.now v →
+            reserved_at reserve ≡ None → (a : ActionOf) × (result ≡ Some a) }
     {
         let key = room.row.key.as_slice();
         reserve.next(key, room.row.value, &room.stock)
     }
 
     /// In this case numbers are wanted: they are brought into the hand.
-    pub(crate) fn supply(&mut self, room: &mut Room, case: Case)
+    pub(crate) fn supply(&mut self, room: &mut Room, position: &Position, case: Case)
         requires { (z : Sizes) × (u : View) × (v : View) × IsRoom z room.old × EndsWithin z u 1203 room.old v }
         ensures kept { IsSameTry self.old self.new room.old room.new }
         ensures not_anew { ended_at self.new ≢ Some anew }
         ensures not_overlaps { ended_at self.new ≢ Some overlaps }
         ensures free { is_free self.new ≡ true }
         ensures fits { (z : Sizes) (u v : View) → IsRoom z room.old → EndsWithin z u 1203 room.old v → IsCaseOf self.old.job case →
-            IsStanding z room.old.row.key.items self.old.position room.old.read_set v →
-            WantsNumbers z u case self.old.position room.old v → Fits z u self.new room.new v }
+            IsStanding z room.old.row.key.items position.now room.old.read_set v → WantsNumbers z u case position.now room.old v →
+            Fits z u self.new room.new v }
     {
-        self.case = case;
-        let demand = case.demand(room.sizes, &self.position.verdict);
+        let demand = case.demand(room.sizes, &position.verdict);
         let reserve = Reserve::new(&demand, &mut room.stock);
-        self.supply_on(room, reserve);
+        self.supply_on(room, position, case, reserve);
     }
 
     /// A number was sought, or a word of the leaf written.
     #[inline(always)]
-    pub(crate) fn supply_told(&mut self, room: &mut Room, reserve: Reserve, answer: Answer)
+    pub(crate) fn supply_told(
+        &mut self,
+        room: &mut Room,
+        position: &Position,
+        case: Case,
+        reserve: Reserve,
+        answer: Answer,
+    )
         requires { (z : Sizes) × (u : View) × (v : View) × (w : View) × (asked : ActionOf) × IsRoom z room.old ×
-            HasSupplies z u self.old reserve room.old v × (supply_asks reserve room.old ≡ Some asked) ×
+            HasSupplies z u self.old.job position.now case reserve room.old v × (supply_asks reserve room.old ≡ Some asked) ×
             ActionAnswers z None asked answer v w }
         ensures kept { IsSameTry self.old self.new room.old room.new }
         ensures not_anew { ended_at self.new ≢ Some anew }
         ensures not_overlaps { ended_at self.new ≢ Some overlaps }
         ensures free { is_free self.new ≡ true }
-        ensures fits { (z : Sizes) (u v w : View) (asked : ActionOf) → IsRoom z room.old → HasSupplies z u self.old reserve room.old v →
-            supply_asks reserve room.old ≡ Some asked → ActionAnswers z None asked answer v w → Fits z u self.new room.new w }
+        ensures fits { (z : Sizes) (u v w : View) (asked : ActionOf) → IsRoom z room.old →
+            HasSupplies z u self.old.job position.now case reserve room.old v → supply_asks reserve room.old ≡ Some asked →
+            ActionAnswers z None asked answer v w → Fits z u self.new room.new w }
     {
-        let demand = self.case.demand(room.sizes, &self.position.verdict);
+        let demand = case.demand(room.sizes, &position.verdict);
         let mut reserve = reserve;
         reserve.told(&demand, &mut room.stock, answer);
-        self.supply_on(room, reserve);
+        self.supply_on(room, position, case, reserve);
     }
 
     /// Brings numbers into the hand, as long as more than one turn is left.
@@ -83,10 +94,12 @@ impl Attempt {
         &mut self,
         steps: &mut S,
         room: &mut Room,
+        position: &Position,
+        case: Case,
         reserve: Reserve,
         left: &mut u32,
     )
-        requires stage { self.old.stage ≡ stages.Reserve reserve }
+        requires stage { self.old.stage ≡ stages.Placed position.now (parts.Reserve case reserve) }
         requires short { length room.old.row.key.items ≤ 64 }
         requires turn { 0 < left.old }
         requires fits { (u : View) × Fits (S.sizes steps.old) u self.old room.old (S.view steps.old) }
@@ -98,97 +111,105 @@ impl Attempt {
         ensures fits { (u : View) → Fits (S.sizes steps.old) u self.old room.old (S.view steps.old) →
             Fits (S.sizes steps.old) u self.new room.new (S.view steps.new) }
     {
-        let demand = self.case.demand(room.sizes, &self.position.verdict);
+        let demand = case.demand(room.sizes, &position.verdict);
         let key = room.row.key.as_slice();
         let mut reserve = reserve;
         reserve.run(steps, &demand, key, room.row.value, &mut room.stock, left);
-        self.supply_on(room, reserve);
+        self.supply_on(room, position, case, reserve);
     }
 
     /// It goes on; or all is in hand, and the cells are validated; or a pool gave no number.
     #[inline(always)]
-    fn supply_on(&mut self, room: &Room, reserve: Reserve)
+    fn supply_on(&mut self, room: &Room, position: &Position, case: Case, reserve: Reserve)
         ensures job { self.new.job ≡ self.old.job }
         ensures not_anew { ended_at self.new ≢ Some anew }
         ensures not_overlaps { ended_at self.new ≢ Some overlaps }
         ensures free { is_free self.new ≡ true }
-        ensures fits { (z : Sizes) (u v : View) → IsRoom z room.now → HasSupplies z u self.old reserve room.now v →
-            Fits z u self.new room.now v }
+        ensures fits { (z : Sizes) (u v : View) → IsRoom z room.now →
+            HasSupplies z u self.old.job position.now case reserve room.now v → Fits z u self.new room.now v }
     {
         match reserve.ended() {
-            None => self.stage = Stage::Reserve(reserve),
-            Some(Reserved::Ready) => self.validate(room, self.case),
-            Some(Reserved::Full(pool)) => self.lack(room, pool),
+            None => self.go_on(position, Part::Reserve { case, reserve }),
+            Some(Reserved::Ready) => self.validate(room, position, case),
+            Some(Reserved::Full(pool)) => self.lack(room, position, pool),
         }
     }
 
     /// No number of the pool was found: a leaf that was to come is refused, and one that goes does so alone.
-    fn lack(&mut self, room: &Room, pool: Pool)
+    fn lack(&mut self, room: &Room, position: &Position, pool: Pool)
         ensures job { self.new.job ≡ self.old.job }
         ensures not_anew { ended_at self.new ≢ Some anew }
         ensures not_overlaps { ended_at self.new ≢ Some overlaps }
         ensures free { is_free self.new ≡ true }
-        ensures fits { (z : Sizes) (u v : View) (s : ReserveOf) → IsRoom z room.now → HasSupplies z u self.old s room.now v →
-            reserved_at s ≡ Some (full pool) → Fits z u self.new room.now v }
+        ensures fits { (z : Sizes) (u v : View) (c : CaseOf) (s : ReserveOf) → IsRoom z room.now →
+            HasSupplies z u self.old.job position.now c s room.now v → reserved_at s ≡ Some (full pool) → Fits z u self.new room.now v }
     {
         match self.job {
             Job::Insert => self.stage = Stage::Ended(Ending::Full(pool)),
-            Job::Remove => self.validate(room, Case::DropLeaf),
+            Job::Remove => self.validate(room, position, Case::DropLeaf),
         }
     }
 
     /// What is changed is known: the cells that are written are validated.
-    pub(crate) fn validate(&mut self, room: &Room, case: Case)
+    pub(crate) fn validate(&mut self, room: &Room, position: &Position, case: Case)
         ensures job { self.new.job ≡ self.old.job }
         ensures not_anew { ended_at self.new ≢ Some anew }
         ensures not_overlaps { ended_at self.new ≢ Some overlaps }
         ensures free { is_free self.new ≡ true }
         ensures fits { (z : Sizes) (u v : View) → IsRoom z room.now → EndsWithin z u 21702 room.now v → IsCaseOf self.old.job case →
-            IsStanding z room.now.row.key.items self.old.position room.now.read_set v → IsKnown z u case self.old.position room.now v →
-            BelowFits z room.now.row.key.items self.old.position room.now.read_set (cells_of case self.old.position.verdict).lower
+            IsStanding z room.now.row.key.items position.now room.now.read_set v → IsKnown z u case position.now room.now v →
+            BelowFits z room.now.row.key.items position.now room.now.read_set (cells_of case position.now.verdict).lower
             room.now.lower v v → Fits z u self.new room.now v }
     {
-        self.case = case;
-        let cells = case.cells(&self.position.verdict);
-        let validate = Validate::new(&self.position, &cells, &room.read_set, &room.lower);
-        self.stage = Stage::Validate(validate);
+        let cells = case.cells(&position.verdict);
+        let validate = Validate::new(position, &cells, &room.read_set, &room.lower);
+        self.go_on(position, Part::Validate { case, validate });
     }
 
     /// What comes next where the cells are validated.
     #[inline(always)]
-    pub(crate) fn validate_next(&self, validate: Validate) -> Option<Action>
-        ensures asks { result ≡ validate_asks self.now validate }
-        ensures allowed { (z : Sizes) (u v : View) (r : RoomOf) (d : Deed) → IsValidating z u self.now validate r v →
-            IfSome result (IsAllowed z d r.change v) }
-        ensures going { (z : Sizes) (u v : View) (r : RoomOf) → IsValidating z u self.now validate r v →
+    pub(crate) fn validate_next(&self, position: &Position, case: Case, validate: Validate) -> Option<Action>
+        ensures asks { result ≡ validate_asks position.now case validate }
+        ensures allowed { (z : Sizes) (u v : View) (r : RoomOf) (d : Deed) →
+            IsValidating z u self.now.job position.now case validate r v → IfSome result (IsAllowed z d r.change v) }
+        ensures going { (z : Sizes) (u v : View) (r : RoomOf) → IsValidating z u self.now.job position.now case validate r v →
             validated_at validate ≡ None → (a : ActionOf) × (result ≡ Some a) }
     {
-        let cells = self.case.cells(&self.position.verdict);
-        validate.next(&self.position, &cells)
+        let cells = case.cells(&position.verdict);
+        validate.next(position, &cells)
     }
 
     /// A word was read, or a cell was checked.
-    pub(crate) fn validate_told(&mut self, room: &mut Room, validate: Validate, answer: Answer)
+    pub(crate) fn validate_told(
+        &mut self,
+        room: &mut Room,
+        position: &Position,
+        case: Case,
+        validate: Validate,
+        answer: Answer,
+    )
         requires { (z : Sizes) × (u : View) × (v : View) × (w : View) × (asked : ActionOf) × IsRoom z room.old ×
-            IsValidating z u self.old validate room.old v × (validate_asks self.old validate ≡ Some asked) ×
+            IsValidating z u self.old.job position.now case validate room.old v ×
+            (validate_asks position.now case validate ≡ Some asked) ×
             ActionAnswers z (telling (deed_at self.old room.old)) asked answer v w }
         ensures kept { IsSameTry self.old self.new room.old room.new }
         ensures anew { ended_at self.new ≡ Some anew → goes_on answer ≡ false }
         ensures not_overlaps { ended_at self.new ≢ Some overlaps }
         ensures free { is_free self.new ≡ true }
         ensures fits { (z : Sizes) (u v w : View) (asked : ActionOf) → IsRoom z room.old →
-            IsValidating z u self.old validate room.old v → validate_asks self.old validate ≡ Some asked →
+            IsValidating z u self.old.job position.now case validate room.old v →
+            validate_asks position.now case validate ≡ Some asked →
             ActionAnswers z (telling (deed_at self.old room.old)) asked answer v w → Fits z u self.new room.new w }
     {
-        let cells = self.case.cells(&self.position.verdict);
+        let cells = case.cells(&position.verdict);
         let Room {
             read_set,
             lower,
             ..
         } = room;
         let mut validate = validate;
-        validate.told(&self.position, &cells, read_set, lower, answer);
-        self.validate_on(room, validate);
+        validate.told(position, &cells, read_set, lower, answer);
+        self.validate_on(room, position, case, validate);
     }
 
     /// Reads and checks the cells, as long as more than one turn is left.
@@ -196,47 +217,50 @@ impl Attempt {
         &mut self,
         steps: &mut S,
         room: &mut Room,
+        position: &Position,
+        case: Case,
         validate: Validate,
         left: &mut u32,
     )
         requires turn { 0 < left.old }
         requires fits { (u : View) × IsRoom (S.sizes steps.old) room.old ×
-            IsValidating (S.sizes steps.old) u self.old validate room.old (S.view steps.old) }
+            IsValidating (S.sizes steps.old) u self.old.job position.now case validate room.old (S.view steps.old) }
         ensures only { S.only steps.old steps.new }
         ensures kept { IsSameTry self.old self.new room.old room.new }
         ensures free { is_free self.new ≡ true }
         ensures not_overlaps { ended_at self.new ≢ Some overlaps }
         ensures turns { Spends (S.view steps.old) (S.view steps.new) left.old left.new }
         ensures fits { (u : View) → IsRoom (S.sizes steps.old) room.old →
-            IsValidating (S.sizes steps.old) u self.old validate room.old (S.view steps.old) →
+            IsValidating (S.sizes steps.old) u self.old.job position.now case validate room.old (S.view steps.old) →
             Fits (S.sizes steps.old) u self.new room.new (S.view steps.new) }
     {
-        let cells = self.case.cells(&self.position.verdict);
+        let cells = case.cells(&position.verdict);
         let Room {
             read_set,
             lower,
             ..
         } = room;
         let mut validate = validate;
-        validate.run(steps, &self.position, &cells, read_set, lower, left);
-        self.validate_on(room, validate);
+        validate.run(steps, position, &cells, read_set, lower, left);
+        self.validate_on(room, position, case, validate);
     }
 
     /// It goes on; or all that is written was seen, and the change is planned; or a cell was changed.
     #[inline(always)]
-    fn validate_on(&mut self, room: &mut Room, validate: Validate)
-        requires { (z : Sizes) × (u : View) × (v : View) × IsRoom z room.old × IsValidating z u self.old validate room.old v }
+    fn validate_on(&mut self, room: &mut Room, position: &Position, case: Case, validate: Validate)
+        requires { (z : Sizes) × (u : View) × (v : View) × IsRoom z room.old ×
+            IsValidating z u self.old.job position.now case validate room.old v }
         ensures kept { IsSameTry self.old self.new room.old room.new }
         ensures anew { ended_at self.new ≡ Some anew → validated_at validate ≡ Some changed_cell }
         ensures not_overlaps { ended_at self.new ≢ Some overlaps }
         ensures free { is_free self.new ≡ true }
-        ensures fits { (z : Sizes) (u v : View) → IsRoom z room.old → IsValidating z u self.old validate room.old v →
-            Fits z u self.new room.new v }
+        ensures fits { (z : Sizes) (u v : View) → IsRoom z room.old →
+            IsValidating z u self.old.job position.now case validate room.old v → Fits z u self.new room.new v }
     {
         match validate.ended() {
-            None => self.stage = Stage::Validate(validate),
+            None => self.go_on(position, Part::Validate { case, validate }),
             Some(Validated::Changed) => self.stage = Stage::Ended(Ending::Restart),
-            Some(Validated::Unchanged) => self.plan(room),
+            Some(Validated::Unchanged) => self.plan(room, position, case),
         }
     }
 }

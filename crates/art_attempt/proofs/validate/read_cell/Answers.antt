@@ -1,5 +1,5 @@
 -- Words of one cell were read, and noted.
-use Rattle.std.proofs.Common.{◌≡◌, ◌∙◌, ◌+◌, ◌-◌, ◌<◌, ◌≤◌, Some, sym, subst, arith, ⊎_elim}
+use Rattle.std.proofs.Common.{◌≡◌, ◌∙◌, ◌+◌, ◌-◌, ◌<◌, ◌≤◌, sym, subst, arith, ⊎_elim}
 use Rattle.art_find.specs.Rereadings.{RereadingFits}
 use Rattle.art_attempt.proofs.Validates.{inside, knows_read, left_after_reads, node_run, not_all_known, same_stamp, until_read}
 use Rattle.art_attempt.specs.Validate.{left_after, reads_of}

@@ -1,5 +1,5 @@
 -- One word was read, and noted.
-use Rattle.std.proofs.Common.{◌≡◌, ◌∙◌, ◌+◌, ◌-◌, ℕ, Some, sym, subst, arith}
+use Rattle.std.proofs.Common.{◌≡◌, ◌∙◌, ◌+◌, ◌-◌, ℕ, sym, subst, arith}
 use Rattle.art_find.proofs.Runs.{one_read}
 use Rattle.art_find.specs.Rereadings.{RereadingFits}
 use Rattle.art_attempt.proofs.Validates.{inside, knows_read, left_after_reads, node_stays, not_all_known, not_known, read_row, same_stamp, until_read}

@@ -1,4 +1,4 @@
-use Rattle.std.proofs.Common.{◌∙◌, Some, sym, subst}
+use Rattle.std.proofs.Common.{◌∙◌, sym, subst}
 use Rattle.std.proofs.lemmas.Option.{same_Some}
 use Rattle.art_find.specs.Rereadings.{AreKnown}
 use Rattle.art_attempt.proofs.RereadsGoOn.{reads_more}

@@ -5,10 +5,12 @@ use Rattle.art_make.specs.Apply.{is_begun}
 use Rattle.art_plan.proofs.Renewing.{plain_whole}
 
 pub returns-clause-fits : goal.returns-clause-fits
-returns-clause-fits c z u v room so may = record {
+returns-clause-fits c z u v t case room so may = record {
   room = room;
   stage = (
     record {
+      position = t;
+      chosen = case;
       early = v;
       base = so.still;
       later = later_first v;

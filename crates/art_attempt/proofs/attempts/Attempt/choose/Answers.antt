@@ -14,8 +14,9 @@ read_on-requires c = c.requires.5
 pub returns-in-Merges-clause-fits : goal.returns-in-Merges-clause-fits
 returns-in-Merges-clause-fits c z u v room so job leaf standing =
     let m = c.args.self.now in
+    let t = c.args.position.now in
     let r = c.args.room.now in
-    let p = stands_begins z u 1201 m.position r v so standing in
+    let p = stands_begins z u 1201 t r v so standing in
     c.read_on.ensures.fits z u v room (record {
       early = v;
       base = so.still;
@@ -26,7 +27,7 @@ returns-in-Merges-clause-fits c z u v room so job leaf standing =
       leaf = leaf;
       reads = p;
       merges = sym c.loss.ensures ∙ c.in-Merges.is;
-      fits = here_begins z r.row.key.items m.position r.read_set v v c.new.result c.node.result.now p c.node.ensures (c.new.ensures.fits z v m.position.stamp);
+      fits = here_begins z r.row.key.items t r.read_set v v c.new.result c.node.result.now p c.node.ensures (c.new.ensures.fits z v t.stamp);
     })
 
 pub supply-requires : goal.supply-requires

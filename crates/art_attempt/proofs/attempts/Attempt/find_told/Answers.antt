@@ -1,7 +1,7 @@
 use Rattle.std.proofs.Common.{◌∙◌, sym, subst}
 use Rattle.art_attempt.proofs.attempts.Attempt.find_told.Goals as goal
 use Rattle.art_attempt.proofs.Finds.{at_place}
-use Rattle.art_attempt.specs.Attempts.{deed_at}
+use Rattle.art_attempt.specs.Attempts.{deed_by}
 use Rattle.art_machine.specs.Acting.{Answers, telling}
 use Rattle.art_find.specs.Descents.{asks}
 use Rattle.art_machine.specs.declared.actions.Action.{Action}
@@ -9,24 +9,26 @@ use Rattle.art_machine.specs.declared.actions.Action.{Action}
 pub settled-requires : goal.settled-requires
 settled-requires c =
     let m = c.args.self.now in
+    let f = c.args.finding in
     let t = c.in-Some.position in
     let q = c.requires.told in
     let at = sym c.position.ensures.at ∙ c.in-Some.is in
-    let check = at_place m.job m.finding (asks m.finding.descent.stage) q.4 t at q.7 in
-    (q.0, q.1, q.2, q.3, q.5, q.6, at, subst (λ (a : Action). Answers q.0 (telling (deed_at m c.args.room.now)) a c.args.answer q.2 q.3) (sym check) q.8)
+    let check = at_place m.job f (asks f.descent.stage) q.4 t at q.7 in
+    (q.0, q.1, q.2, q.3, f, q.5, q.6, at, subst (λ (a : Action). Answers q.0 (telling (deed_by m.job f c.args.room.now)) a c.args.answer q.2 q.3) (sym check) q.8)
 
 pub returns-in-Some-clause-fits : goal.returns-in-Some-clause-fits
-returns-in-Some-clause-fits c z u v w asked room f is row =
+returns-in-Some-clause-fits c z u v w asked room seeks is row =
     let m = c.args.self.now in
+    let f = c.args.finding in
     let t = c.in-Some.position in
     let at = sym c.position.ensures.at ∙ c.in-Some.is in
-    let check = at_place m.job m.finding (asks m.finding.descent.stage) asked t at is in
-    c.settled.ensures.fits z u v w room f at (subst (λ (a : Action). Answers z (telling (deed_at m c.args.room.now)) a c.args.answer v w) (sym check) row)
+    let check = at_place m.job f (asks f.descent.stage) asked t at is in
+    c.settled.ensures.fits z u v w f room seeks at (subst (λ (a : Action). Answers z (telling (deed_by m.job f c.args.room.now)) a c.args.answer v w) (sym check) row)
 
 pub returns-in-Some-clause-overlaps : goal.returns-in-Some-clause-overlaps
 returns-in-Some-clause-overlaps c is =
     let k = c.settled.ensures.overlaps is in
-    record { job = k.0; finding = c.requires.stage; position = c.in-Some.position; there = sym c.position.ensures.at ∙ c.in-Some.is; overlaps = k.1; succeeded = k.2 }
+    record { job = k.0; by = c.args.finding; finding = c.requires.stage; position = c.in-Some.position; there = sym c.position.ensures.at ∙ c.in-Some.is; overlaps = k.1; succeeded = k.2 }
 
 pub returns-in-None-clause-overlaps : goal.returns-in-None-clause-overlaps
 returns-in-None-clause-overlaps c is = absurd (c.find_on.ensures.not_overlaps is)

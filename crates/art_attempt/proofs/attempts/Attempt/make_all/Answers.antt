@@ -40,7 +40,7 @@ returns-clause-fits g c u fits =
     let m = c.args.self.now in
     let r = c.args.room.now in
     let h = has_made z u m r v c.args.apply c.requires.stage fits in
-    c.make_on.ensures.fits z u w fits.room (made_on z u m c.args.apply r v h w c.run.new.self c.run.ensures.runs.keeps (c.run.ensures.fits h.early h.fits))
+    c.make_on.ensures.fits z u w fits.room (made_on z u m.job c.args.apply r v h w c.run.new.self c.run.ensures.runs.keeps (c.run.ensures.fits h.early h.fits))
 
 pub returns-clause-not_overlaps : goal.returns-clause-not_overlaps
 returns-clause-not_overlaps g c overlaps =

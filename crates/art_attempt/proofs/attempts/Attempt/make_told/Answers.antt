@@ -7,10 +7,9 @@ use Rattle.art_attempt.proofs.Looks.{begun_none}
 use Rattle.art_attempt.proofs.Overlaps.{made_apart}
 use Rattle.art_attempt.proofs.attempts.Attempt.make_told.Goals as goal
 use Rattle.art_machine.specs.Acting.{steps_in}
-use Rattle.art_attempt.specs.Attempts.{apply_left, ended_at, ending_at, ended_so, free_at, is_free, left_at, steps_left}
+use Rattle.art_attempt.specs.Attempts.{apply_left, ending_at, ended_so, free_at, left_at}
 use Rattle.art_attempt.specs.declared.attempts.Ending.{Ending}
 use Rattle.art_attempt.specs.declared.attempts.Ending.TheVariants.{Restart, Overlaps}
-use Rattle.art_attempt.specs.declared.attempts.Attempt.{Attempt}
 use Rattle.art_attempt.specs.declared.attempts.Stage.{Stage as StageOf}
 use Rattle.art_make.proofs.Keeping.{answer_keeps}
 use Rattle.art_make.proofs.Told.{few_steps}
@@ -23,7 +22,7 @@ returns-clause-fits c z u v w asked room h is row =
     let m = c.args.self.now in
     let r = c.args.room.now in
     let keeps = answer_keeps z h.early v w r.change c.args.apply asked c.args.answer h.fits is row in
-    c.make_on.ensures.fits z u w room (made_on z u m c.args.apply r v h w c.told.new.self keeps (c.told.ensures.fits z h.early v w asked h.fits is row))
+    c.make_on.ensures.fits z u w room (made_on z u m.job c.args.apply r v h w c.told.new.self keeps (c.told.ensures.fits z h.early v w asked h.fits is row))
 
 pub returns-clause-left : goal.returns-clause-left
 returns-clause-left c left begun =

@@ -1,15 +1,15 @@
 use Rattle.std.proofs.Common.{◌∙◌, Some, ap, sym}
-use Rattle.art_attempt.proofs.Names.{naming_at}
+use Rattle.art_attempt.proofs.Stages.{goes_on_at}
 use Rattle.art_attempt.proofs.attempts.Attempt.name_on.Goals as goal
-use Rattle.art_attempt.specs.declared.attempts.Stage.TheVariants as stages
+use Rattle.art_attempt.specs.declared.attempts.Part.TheVariants as parts
 use Rattle.art_attempt.specs.declared.naming.Named.{Named}
 
 pub returns-in-None-clause-fits : goal.returns-in-None-clause-fits
 returns-in-None-clause-fits c z u v room h =
     let m = c.args.self.now in
+    let t = c.args.position.now in
     let r = c.args.room.now in
-    let here = stages.Naming c.args.byte c.args.node c.args.naming in
-    record { room = room; stage = (naming_at z u m c.args.byte c.args.node c.args.naming r v h here, sym c.ended.ensures.at ∙ c.in-None.is) }
+    goes_on_at z u m c.go_on.new.self t (parts.Naming c.args.byte c.args.node c.args.naming) r v c.go_on.ensures room (h, sym c.ended.ensures.at ∙ c.in-None.is)
 
 pub returns-in-Some-clause-fits : goal.returns-in-Some-clause-fits
 returns-in-Some-clause-fits c z u v room h = c.named.ensures.fits z u v c.args.naming room h (sym c.ended.ensures.at ∙ c.in-Some.is)

@@ -1,8 +1,9 @@
 -- The steps are those of the rereading.
 use Rattle.std.proofs.Common.{◌∙◌, sym, subst, arith}
 use Rattle.std.specs.Prelude.{⊤}
-use Rattle.art_attempt.proofs.Stages.{reads_on, same_on}
+use Rattle.art_attempt.proofs.Stages.{at_part, same_on}
 use Rattle.art_attempt.specs.Attempts.{Fits, deed_at}
+use Rattle.art_attempt.specs.declared.attempts.Part.TheVariants as parts
 use Rattle.art_attempt.proofs.Asked.{reads_look}
 use Rattle.art_find.specs.Asking.{MayLook}
 use Rattle.art_machine.proofs.Counting.{look_counts}
@@ -18,7 +19,7 @@ look-requires g c =
     let i = c.loop-left.invariant in
     let m = c.loop-left.self in
     let r = c.loop-left.room in
-    let h = (reads_on z i.here.0 m r v c.in-Reading.rereading c.in-Reading.is i.here.1).0 in
+    let h = (at_part z i.here.0 m r v c.in-Placed.position c.in-Placed.part (parts.Reading c.in-Reading.rereading) c.in-Placed.is c.in-Reading.is i.here.1).0 in
     record {
       allowed = subst (λ (y : Sizes). MayLook y (λ s. ⊤) v c.in-Some.asked) (sym i.sizes)
           (c.in-Some.ensures.allowed z v _ h.fits);
@@ -35,12 +36,12 @@ read_told-requires-clause-told g c =
     let d = deed_at m r in
     let a = c.in-Some.asked in
     let row : Answers z (telling d) a c.in-Some-look.answer v w = subst (λ (y : Sizes). Answers y (telling d) a c.in-Some-look.answer v w) i.sizes (c.in-Some-look.ensures.row d) in
-    (z, i.here.0, v, w, a, i.here.1.room, (reads_on z i.here.0 m r v c.in-Reading.rereading c.in-Reading.is i.here.1).0, sym c.next.ensures.asks ∙ c.in-Some.is, row)
+    (z, i.here.0, v, w, a, i.here.1.room, (at_part z i.here.0 m r v c.in-Placed.position c.in-Placed.part (parts.Reading c.in-Reading.rereading) c.in-Placed.is c.in-Reading.is i.here.1).0, sym c.next.ensures.asks ∙ c.in-Some.is, row)
 
 pub read_told-requires-clause-more : goal.read_told-requires-clause-more
 read_told-requires-clause-more g c =
     let i = c.loop-left.invariant in
-    (reads_on (g.S.Steps.sizes c.args.steps.now) i.here.0 c.loop-left.self c.loop-left.room (g.S.Steps.view c.loop-left.steps) c.in-Reading.rereading c.in-Reading.is i.here.1).1
+    (at_part (g.S.Steps.sizes c.args.steps.now) i.here.0 c.loop-left.self c.loop-left.room (g.S.Steps.view c.loop-left.steps) c.in-Placed.position c.in-Placed.part (parts.Reading c.in-Reading.rereading) c.in-Placed.is c.in-Reading.is i.here.1).1
 
 pub loop-left-preserved : goal.loop-left-preserved
 loop-left-preserved g c =
@@ -56,9 +57,9 @@ loop-left-preserved g c =
     let a = c.in-Some.asked in
     let row : Answers z (telling d) a c.in-Some-look.answer v w = subst (λ (y : Sizes). Answers y (telling d) a c.in-Some-look.answer v w) i.sizes (c.in-Some-look.ensures.row d) in
     let is = sym c.next.ensures.asks ∙ c.in-Some.is in
-    let one = (look_counts z d a c.in-Some-look.answer v w (reads_look m.position.stamp c.in-Reading.rereading a is) row).steps in
+    let one = (look_counts z d a c.in-Some-look.answer v w (reads_look c.in-Placed.position.stamp c.in-Reading.rereading a is) row).steps in
     let on : (u : View) → Fits z u m r v → Fits z u c.read_told.new.self c.read_told.new.room w = λ u fits.
-    c.read_told.ensures.fits z u v w a fits.room ((reads_on z u m r v c.in-Reading.rereading c.in-Reading.is fits).0) is row in
+    c.read_told.ensures.fits z u v w a fits.room (at_part z u m r v c.in-Placed.position c.in-Placed.part (parts.Reading c.in-Reading.rereading) c.in-Placed.is c.in-Reading.is fits).0 is row in
     let made = i.made in
     let less = i.less in
     let more = c.loop-left-test.true in

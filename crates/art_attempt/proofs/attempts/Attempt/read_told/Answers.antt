@@ -1,6 +1,7 @@
 use Rattle.std.proofs.Common.{◌∙◌, inl, sym, subst, arith}
 use Rattle.art_attempt.proofs.Rereads.{IsNotedBy, reread_on, reread_shrinks, reread_so, reread_standing}
 use Rattle.art_attempt.proofs.attempts.Attempt.read_told.Goals as goal
+use Rattle.art_attempt.specs.Attempts.{deed_at}
 use Rattle.art_attempt.specs.Cases.{IsCaseOf}
 use Rattle.art_attempt.specs.declared.attempts.Job.{Job}
 use Rattle.art_attempt.specs.declared.cases.Case.TheVariants.{DropLeaf, Shrink}
@@ -9,43 +10,47 @@ pub supply-requires : goal.supply-requires
 supply-requires c =
     let p = c.requires.told in
     let m = c.args.self.now in
+    let t = c.args.position.now in
     let r = c.args.room.now in
     let read_set = c.reread_node.new.self in
-    let noted : IsNotedBy m r c.args.rereading c.found.result c.reread_node.new.rereading read_set = record { steps = c.reread_node.ensures.steps; above = c.reread_node.ensures.above; stays = c.reread_node.ensures.stays; fits = λ z v w. c.reread_node.ensures.fits z v w m.position.stamp } in
-    let so = reread_shrinks p.0 p.1 m c.args.rereading c.reread_node.new.rereading r p.2 p.3 read_set c.found.result p.4 c.args.answer p.6 c.requires.more p.7 p.8 c.found.ensures noted
+    let noted : IsNotedBy t r c.args.rereading c.found.result c.reread_node.new.rereading read_set = record { steps = c.reread_node.ensures.steps; above = c.reread_node.ensures.above; stays = c.reread_node.ensures.stays; fits = λ z v w. c.reread_node.ensures.fits z v w t.stamp } in
+    let so = reread_shrinks p.0 p.1 m.job t (deed_at m r) c.args.rereading c.reread_node.new.rereading r p.2 p.3 read_set c.found.result p.4 c.args.answer p.6 c.requires.more p.7 p.8 c.found.ensures noted
     c.in-Shrinks.layout (sym c.loss.ensures ∙ c.in-Shrinks.is) in
     (p.0, p.1, p.3, record { sizes = p.5.sizes; key = p.5.key }, record { still = so.still; spent = so.spent; has = so.has })
 
 pub returns-in-Shrinks-clause-fits : goal.returns-in-Shrinks-clause-fits
 returns-in-Shrinks-clause-fits c z u v w asked room h is row =
     let m = c.args.self.now in
+    let t = c.args.position.now in
     let r = c.args.room.now in
     let read_set = c.reread_node.new.self in
-    let noted : IsNotedBy m r c.args.rereading c.found.result c.reread_node.new.rereading read_set = record { steps = c.reread_node.ensures.steps; above = c.reread_node.ensures.above; stays = c.reread_node.ensures.stays; fits = λ z v w. c.reread_node.ensures.fits z v w m.position.stamp } in
+    let noted : IsNotedBy t r c.args.rereading c.found.result c.reread_node.new.rereading read_set = record { steps = c.reread_node.ensures.steps; above = c.reread_node.ensures.above; stays = c.reread_node.ensures.stays; fits = λ z v w. c.reread_node.ensures.fits z v w t.stamp } in
     let shrinks = sym c.loss.ensures ∙ c.in-Shrinks.is in
-    let so = reread_shrinks z u m c.args.rereading c.reread_node.new.rereading r v w read_set c.found.result asked c.args.answer h c.requires.more is row c.found.ensures noted c.in-Shrinks.layout shrinks in
-    let standing = reread_standing z u m c.args.rereading c.reread_node.new.rereading r v w read_set c.found.result asked c.args.answer h c.requires.more is row c.found.ensures noted in
+    let so = reread_shrinks z u m.job t (deed_at m r) c.args.rereading c.reread_node.new.rereading r v w read_set c.found.result asked c.args.answer h c.requires.more is row c.found.ensures noted c.in-Shrinks.layout shrinks in
+    let standing = reread_standing z u m.job t (deed_at m r) c.args.rereading c.reread_node.new.rereading r v w read_set c.found.result asked c.args.answer h c.requires.more is row c.found.ensures noted in
     c.supply.ensures.fits z u w (record { sizes = room.sizes; key = room.key }) (record { still = so.still; spent = so.spent; has = so.has }) (subst (λ (j : Job). IsCaseOf j (Shrink c.in-Shrinks.layout)) (sym h.job) tt)
     standing (record { found = h.leaf.found; key = h.leaf.key }, shrinks)
 
 pub returns-in-Leaf-clause-fits : goal.returns-in-Leaf-clause-fits
 returns-in-Leaf-clause-fits c z u v w asked room h is row =
     let m = c.args.self.now in
+    let t = c.args.position.now in
     let r = c.args.room.now in
     let read_set = c.reread_node.new.self in
-    let noted : IsNotedBy m r c.args.rereading c.found.result c.reread_node.new.rereading read_set = record { steps = c.reread_node.ensures.steps; above = c.reread_node.ensures.above; stays = c.reread_node.ensures.stays; fits = λ z v w. c.reread_node.ensures.fits z v w m.position.stamp } in
-    let so = reread_so z u m c.args.rereading c.reread_node.new.rereading r v w read_set c.found.result asked c.args.answer h c.requires.more is row c.found.ensures noted in
-    let standing = reread_standing z u m c.args.rereading c.reread_node.new.rereading r v w read_set c.found.result asked c.args.answer h c.requires.more is row c.found.ensures noted in
+    let noted : IsNotedBy t r c.args.rereading c.found.result c.reread_node.new.rereading read_set = record { steps = c.reread_node.ensures.steps; above = c.reread_node.ensures.above; stays = c.reread_node.ensures.stays; fits = λ z v w. c.reread_node.ensures.fits z v w t.stamp } in
+    let so = reread_so z u m.job t (deed_at m r) c.args.rereading c.reread_node.new.rereading r v w read_set c.found.result asked c.args.answer h c.requires.more is row c.found.ensures noted in
+    let standing = reread_standing z u m.job t (deed_at m r) c.args.rereading c.reread_node.new.rereading r v w read_set c.found.result asked c.args.answer h c.requires.more is row c.found.ensures noted in
     c.validate.ensures.fits z u w (record { sizes = room.sizes; key = room.key }) (record { still = so.still; spent = λ limited. (let spent = so.spent limited in omega (arith, spent)); has = so.has }) (subst (λ (j : Job). IsCaseOf j DropLeaf) (sym h.job) tt)
     standing (record { found = h.leaf.found; key = h.leaf.key }, inl (sym c.loss.ensures ∙ c.in-Leaf.is)) tt
 
 pub returns-in-Merges-clause-fits : goal.returns-in-Merges-clause-fits
 returns-in-Merges-clause-fits c z u v w asked room h is row =
     let m = c.args.self.now in
+    let t = c.args.position.now in
     let r = c.args.room.now in
     let read_set = c.reread_node.new.self in
-    let noted : IsNotedBy m r c.args.rereading c.found.result c.reread_node.new.rereading read_set = record { steps = c.reread_node.ensures.steps; above = c.reread_node.ensures.above; stays = c.reread_node.ensures.stays; fits = λ z v w. c.reread_node.ensures.fits z v w m.position.stamp } in
-    let on = reread_on z u m c.args.rereading c.reread_node.new.rereading r v w read_set c.found.result asked c.args.answer h c.requires.more is row c.found.ensures noted (sym c.loss.ensures ∙ c.in-Merges.is) in
+    let noted : IsNotedBy t r c.args.rereading c.found.result c.reread_node.new.rereading read_set = record { steps = c.reread_node.ensures.steps; above = c.reread_node.ensures.above; stays = c.reread_node.ensures.stays; fits = λ z v w. c.reread_node.ensures.fits z v w t.stamp } in
+    let on = reread_on z u m.job t (deed_at m r) c.args.rereading c.reread_node.new.rereading r v w read_set c.found.result asked c.args.answer h c.requires.more is row c.found.ensures noted (sym c.loss.ensures ∙ c.in-Merges.is) in
     c.read_on.ensures.fits z u w (record { sizes = room.sizes; key = room.key }) (record {
       early = on.early;
       base = on.base;

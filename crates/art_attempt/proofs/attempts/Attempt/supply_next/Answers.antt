@@ -10,14 +10,13 @@ use Rattle.art_machine.specs.declared.actions.Action.{Action}
 use Rattle.art_machine.specs.Acting as acting
 
 pub returns-clause-allowed : goal.returns-clause-allowed
-returns-clause-allowed c z u v d h = by_answer c.next.result refl
+returns-clause-allowed c z u v t k d h = by_answer c.next.result refl
   where
     by_answer : (o : Option Action) → c.next.result ≡ o → IfSome o (IsAllowed z d c.args.room.now.change v)
     by_answer None is = tt
     by_answer (Some a) is =
         let r = c.args.room.now in
-        let m = c.args.self.now in
-        let demand = demand_of z m.case m.position.verdict in
+        let demand = demand_of z k t.verdict in
         let key = c.as_slice-key.ensures.value in
         let at = subst (λ (l : List ℕ). asks l r.row.value r.stock c.args.reserve ≡ Some a) key (sym {b = asks _ r.row.value r.stock c.args.reserve} c.next.ensures.asks ∙ is) in
         let may = c.next.ensures.allowed z h.early v demand (subst (λ (l : List ℕ). SupplyFits z demand l r.row.value c.args.reserve r.stock h.early v) (sym key) h.fits) in

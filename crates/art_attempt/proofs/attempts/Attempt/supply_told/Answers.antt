@@ -8,11 +8,11 @@ use Rattle.art_step.specs.declared.views.Sizes.{Sizes as SizesOf}
 
 pub returns-clause-fits : goal.returns-clause-fits
 returns-clause-fits c z u v w asked room h is row =
-    let m = c.args.self.now in
+    let t = c.args.position.now in
     let r = c.args.room.now in
     let k = r.row.key.items in
     let value = r.row.value in
-    let same : demand_of z m.case m.position.verdict ≡ c.demand-demand.result = sym (c.demand-demand.ensures ∙ ap (λ (y : SizesOf). demand_of y m.case m.position.verdict) room.sizes) in
+    let same : demand_of z c.args.case t.verdict ≡ c.demand-demand.result = sym (c.demand-demand.ensures ∙ ap (λ (y : SizesOf). demand_of y c.args.case t.verdict) room.sizes) in
     let fits = c.told.ensures.fits z k value h.early v w asked (subst (λ (x : Demand). SupplyFits z x k value c.args.reserve r.stock h.early v) same h.fits) is row in
     c.supply_on.ensures.fits z u w (record { sizes = room.sizes; key = room.key }) (record {
       early = h.early;
@@ -20,6 +20,6 @@ returns-clause-fits c z u v w asked room h is row =
       spent = h.spent;
       case = h.case;
       standing = h.standing;
-      wants = wants_same z u m.position r h.early m.case c.told.new.stock h.wants;
+      wants = wants_same z u t r h.early c.args.case c.told.new.stock h.wants;
       fits = subst (λ (x : Demand). SupplyFits z x k value c.told.new.self c.told.new.stock h.early w) (sym same) fits;
     })

@@ -12,7 +12,7 @@ run-requires-clause-fits g c =
     let r = c.args.room.now in
     let k = r.row.key.items in
     let h = c.requires.fits.2 in
-    (k, h.early, subst (λ (p : Cells). ValidateFits z k c.args.self.now.position p c.args.validate r.read_set r.lower h.early v) (sym c.cells-cells.ensures) h.fits)
+    (k, h.early, subst (λ (p : Cells). ValidateFits z k c.args.position.now p c.args.validate r.read_set r.lower h.early v) (sym c.cells-cells.ensures) h.fits)
 
 pub validate_on-requires : goal.validate_on-requires
 validate_on-requires g c =
@@ -22,7 +22,7 @@ validate_on-requires g c =
     let m = c.args.self.now in
     let r = c.args.room.now in
     let k = r.row.key.items in
-    let t = m.position in
+    let t = c.args.position.now in
     let q = c.requires.fits in
     let h = q.2 in
     let cells = c.cells-cells.ensures in
@@ -34,7 +34,7 @@ validate_on-requires g c =
       q.0,
       w,
       record { sizes = q.1.sizes; key = q.1.key },
-      validating_on z q.0 m c.args.validate r v h w c.run.new.self c.run.new.read_set c.run.new.lower (omega (arith, made, less)) c.run.ensures.found c.run.ensures.node then,
+      validating_on z q.0 m.job t c.args.case c.args.validate r v h w c.run.new.self c.run.new.read_set c.run.new.lower (omega (arith, made, less)) c.run.ensures.found c.run.ensures.node then,
     )
 
 pub returns-clause-fits : goal.returns-clause-fits
@@ -45,11 +45,11 @@ returns-clause-fits g c u room h =
     let m = c.args.self.now in
     let r = c.args.room.now in
     let k = r.row.key.items in
-    let t = m.position in
+    let t = c.args.position.now in
     let cells = c.cells-cells.ensures in
     let after = c.run.ensures.fits k h.early (subst (λ (p : Cells). ValidateFits z k t p c.args.validate r.read_set r.lower h.early v) (sym cells) h.fits) in
     let then = subst (λ (p : Cells). ValidateFits z k t p c.run.new.self c.run.new.read_set c.run.new.lower h.early w) cells after in
     let made = c.run.ensures.turns.made in
     let less = c.run.ensures.turns.less in
     c.validate_on.ensures.fits z u w (record { sizes = room.sizes; key = room.key })
-    (validating_on z u m c.args.validate r v h w c.run.new.self c.run.new.read_set c.run.new.lower (omega (arith, made, less)) c.run.ensures.found c.run.ensures.node then)
+    (validating_on z u m.job t c.args.case c.args.validate r v h w c.run.new.self c.run.new.read_set c.run.new.lower (omega (arith, made, less)) c.run.ensures.found c.run.ensures.node then)

@@ -1,0 +1,118 @@
+//! What an attempt does where its key stands, part by part, before a change is made.
+ghost use Rattle.std.specs.Prelude.{◌≡◌, ◌≢◌, ℕ, ◌+◌, ◌<◌, ◌≤◌, length, None, Some, true, false};
+ghost use Rattle.art_attempt.specs.Attempts.{Fits, IsRoom, IsSameTry, PartFits, deed_at, ended_at, is_free, part_asks};
+ghost use Rattle.art_attempt.specs.declared.attempts.Ending.TheVariants.{Restart as anew, Overlaps as overlaps};
+ghost use Rattle.art_attempt.specs.declared.attempts.Stage.TheVariants as stages;
+ghost use Rattle.art_machine.specs.Acting.{goes_on};
+ghost use Rattle.art_machine.specs.Turns.{Spends};
+ghost use Rattle.art_machine.specs.declared.actions.Action.{Action as ActionOf};
+ghost use Rattle.art_step.specs.declared.views.Sizes.{Sizes};
+ghost use Rattle.art_step.specs.declared.views.View.{View};
+
+use crate::{Attempt, Part, Room, Stage};
+use art_find::Position;
+use art_machine::{Action, Answer};
+use art_step::EpochSteps;
+
+impl Attempt {
+    ghost use Rattle.std.specs.Prelude.{IfSome};
+    ghost use Rattle.art_attempt.specs.Asking.{Answers, IsAllowed};
+    ghost use Rattle.art_step.specs.declared.deeds.Deed.{Deed};
+
+    /// What comes next where the key stands.
+    #[inline(always)]
+    pub(crate) fn part_next(&self, room: &Room, position: &Position, part: &Part) -> Option<Action>
+        requires short { length room.now.row.key.items ≤ 64 }
+        ensures asks { result ≡ part_asks part.now position.now room.now }
+        ensures allowed { (z : Sizes) (u v : View) (d : Deed) → PartFits z u self.now.job position.now part.now room.now v →
+            IfSome result (IsAllowed z d room.now.change v) }
+        ensures going { (z : Sizes) (u v : View) → PartFits z u self.now.job position.now part.now room.now v →
+            (a : ActionOf) × (result ≡ Some a) }
+    {
+        match *part {
+            Part::Reserve { reserve, .. } => self.supply_next(room, reserve),
+            Part::Reading(rereading) => self.read_next(position, rereading),
+            Part::Naming { naming, .. } => self.name_next(position, naming),
+            Part::Validate { case, validate } => self.validate_next(position, case, validate),
+        }
+    }
+
+    /// A step of the part was made.
+    #[inline(always)]
+    pub(crate) fn part_told(
+        &mut self,
+        room: &mut Room,
+        position: &Position,
+        part: Part,
+        answer: Answer,
+    )
+        requires { (z : Sizes) × (u : View) × (v : View) × (w : View) × (asked : ActionOf) × IsRoom z room.old ×
+            PartFits z u self.old.job position.now part room.old v × (part_asks part position.now room.old ≡ Some asked) ×
+            Answers z (deed_at self.old room.old) room.old.change asked answer v w }
+        ensures kept { IsSameTry self.old self.new room.old room.new }
+        ensures anew { ended_at self.new ≡ Some anew → goes_on answer ≡ false }
+        ensures not_overlaps { ended_at self.new ≢ Some overlaps }
+        ensures free { is_free self.new ≡ true }
+        ensures fits { (z : Sizes) (u v w : View) (asked : ActionOf) → IsRoom z room.old →
+            PartFits z u self.old.job position.now part room.old v → part_asks part position.now room.old ≡ Some asked →
+            Answers z (deed_at self.old room.old) room.old.change asked answer v w → Fits z u self.new room.new w }
+    {
+        match part {
+            Part::Reserve { case, reserve } => {
+                self.supply_told(room, position, case, reserve, answer)
+            }
+            Part::Reading(rereading) => self.read_told(room, position, rereading, answer),
+            Part::Naming { byte, node, naming } => self.name_told(
+                room, position, byte, node, naming, answer,
+            ),
+            Part::Validate { case, validate } => {
+                self.validate_told(room, position, case, validate, answer)
+            }
+        }
+    }
+
+    /// Makes the steps of the part, as long as more than one turn is left.
+    pub(crate) fn part_all<S: EpochSteps>(
+        &mut self,
+        steps: &mut S,
+        room: &mut Room,
+        position: &Position,
+        part: Part,
+        left: &mut u32,
+    )
+        requires stage { self.old.stage ≡ stages.Placed position.now part }
+        requires short { length room.old.row.key.items ≤ 64 }
+        requires turn { 0 < left.old }
+        requires fits { (u : View) × Fits (S.sizes steps.old) u self.old room.old (S.view steps.old) }
+        ensures only { S.only steps.old steps.new }
+        ensures kept { IsSameTry self.old self.new room.old room.new }
+        ensures free { is_free self.new ≡ true }
+        ensures not_overlaps { ended_at self.new ≢ Some overlaps }
+        ensures turns { Spends (S.view steps.old) (S.view steps.new) left.old left.new }
+        ensures fits { (u : View) → Fits (S.sizes steps.old) u self.old room.old (S.view steps.old) →
+            Fits (S.sizes steps.old) u self.new room.new (S.view steps.new) }
+    {
+        match part {
+            Part::Reserve { case, reserve } => {
+                self.supply_all(steps, room, position, case, reserve, left)
+            }
+            Part::Reading(_) => self.read_all(steps, room, left),
+            Part::Validate { case, validate } => {
+                self.validate_all(steps, room, position, case, validate, left)
+            }
+            // a naming makes two steps at most
+            Part::Naming { .. } => {}
+        }
+    }
+
+    /// It goes on where the key stands, with this part.
+    #[inline(always)]
+    pub(crate) fn go_on(&mut self, position: &Position, part: Part)
+        ensures { self.new ≡ record self.old { stage = stages.Placed position.now part } }
+    {
+        self.stage = Stage::Placed {
+            position: *position,
+            part,
+        };
+    }
+}
