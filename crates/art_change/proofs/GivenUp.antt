@@ -100,11 +100,8 @@ module _ (z : Sizes) (c : Change) (u v : View) where
 module _ (z : Sizes) (u : View) (m : Attempt) (r : Room) (v : View) where
   holds_at : (s : AttemptStage) → AttemptFits z u s m r v → ending_at s ≡ None → free_at s ≡ false → v.held ≢ []
   holds_at (attempt.Apply s) fits on free = apply_holds z r.change fits.0.early v s fits.0.fits fits.1 free
-  holds_at attempt.Finding fits on free = cc
-  holds_at (attempt.Reserve s) fits on free = cc
-  holds_at (attempt.Reading q) fits on free = cc
-  holds_at (attempt.Validate s) fits on free = cc
-  holds_at (attempt.Naming byte n s) fits on free = cc
+  holds_at (attempt.Finding f) fits on free = cc
+  holds_at (attempt.Placed t p) fits on free = cc
   holds_at (attempt.Ended e) fits on free = cc
 
   pub held_in : TryFits z u m r v → try_ended m ≡ None → is_free m ≡ false → v.held ≢ []

@@ -220,7 +220,8 @@ pub record IsTrying (z : Sizes) (u : View) (ps : List Place) (m : Write) (t : At
 abbrev pub HasTurn : ℕ → Attempt → Type 0
 HasTurn left t = attempts.is_free t ≡ true → 0 < left
 
--- the last attempt has ended, when these numbers were in hand and those places waited; the key stood there for it, and this was its case
+-- the last attempt has ended, when these numbers were in hand and those places waited; the key stood there for it, and this was its case,
+-- where the outcome speaks of them
 pub record IsExiting (z : Sizes) (u : View) (ps : List Place) (m : Write) (x : Exit) (o : Outcome) (r : Room) (qs : List Place) (v : View)
     : Type 0 where
   pub opened : View

@@ -56,7 +56,7 @@ returns-then-ended-clause-fits c z u v w ps asked fits is row =
     let on = c.told.ensures.fits z r.row.key.items r.row.value k.ended v w k.waiting asked
     (subst (λ (ws : List ℕ). ExitFits z r.row.key.items r.row.value k.ended k.waiting (links_of ws) x qs r.stock v) (sym words) k.fits) asks_it made in
     let over = subst (λ (e : ExitOf). ExitFits z r.row.key.items r.row.value k.ended k.waiting (links_of c.gone_by.result.now) e rs c.told.new.stock w)
-        (ended_is c.told.new.self (sym c.ended.ensures.at ∙ c.if-ended.true)) on in
+    (ended_is c.told.new.self (sym c.ended.ensures.at ∙ c.if-ended.true)) on in
     let then : RoomOf = record r { stock = c.told.new.stock } in
     let next : Write = record m { stage = Ended a } in
     let exit : IsExiting z u ps next closed a then rs w = record {

@@ -49,8 +49,8 @@ returns-in-Some-clause-fits g c u ps qs before_it =
     let before = k.counted in
     let more = c.hurry.ensures.counted in
     let ends = ends_as z k.began c.hurry.new.room w t c.in-Some.ending fits (sym c.ended.ensures.at ∙ c.in-Some.is) in
-    c.conclude.ensures.fits z u k.opened k.began w ps qs t.position t.case fits.room k.frame k.begun
-    (subst (λ (j : Job). EndsBy z k.began j t.position t.case c.hurry.new.room c.in-Some.ending w) (c.hurry.ensures.kept.job ∙ k.job) ends)
+    c.conclude.ensures.fits z u k.opened k.began w ps qs ends.position ends.case fits.room k.frame k.begun
+    (subst (λ (j : Job). EndsBy z k.began j ends.position ends.case c.hurry.new.room c.in-Some.ending w) (c.hurry.ensures.kept.job ∙ k.job) ends.ends)
     (omega (arith, before, more))
 
 pub hurry-requires-clause-fits : goal.hurry-requires-clause-fits
