@@ -27,10 +27,10 @@ use Rattle.art_step.specs.declared.views.View.{View}
 -- ---- the turns that were used are no more than those that there were
 
 write_used : (s : Stage) (m : Write) → writes.turns_used_at s m ≤ m.turns
-write_used stage.Enter m = omega arith
-write_used stage.Trying m = omega arith
-write_used stage.Exit m = omega arith
-write_used stage.Ended m = omega arith
+write_used (stage.Enter e) m = omega arith
+write_used (stage.Trying t) m = omega arith
+write_used (stage.Exit x o) m = omega arith
+write_used (stage.Ended o) m = omega arith
 
 seek_used : (s : SeekStage) (m : Seek) → seeks.turns_used_at s m ≤ m.turns
 seek_used seek_stage.Pinning m = omega arith

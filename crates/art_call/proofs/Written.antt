@@ -8,10 +8,9 @@ use Rattle.art_call.specs.declared.callers.Call.TheVariants as call
 use Rattle.art_call.specs.declared.callers.Caller.{Caller}
 use Rattle.art_call.specs.declared.outcomes.Outcome.TheVariants.{Busy as is_busy}
 use Rattle.art_change.specs.Writes as writes
-use Rattle.art_change.specs.Writes.{Fits, HasAnswered, HasCounted, HasGround, HasOutcome, IsDone, IsReady, UsedTurns}
+use Rattle.art_change.specs.Writes.{Fits, HasAnswered, HasCounted, HasGround, IsDone, IsReady, UsedTurns}
 use Rattle.art_change.specs.ArtAttempt.declared.attempts.Job.{Job}
 use Rattle.art_change.specs.ArtAttempt.declared.attempts.Job.TheVariants as job
-use Rattle.art_change.specs.ArtAttempt.declared.attempts.Attempt.{Attempt}
 use Rattle.art_change.specs.declared.writes.Outcome.{Outcome}
 use Rattle.art_change.specs.declared.writes.Outcome.TheVariants.{New, Present, Gone, Absent, Full, Exhausted, Overlaps, Busy, Crowded}
 use Rattle.art_change.specs.declared.writes.Write.{Write}
@@ -59,70 +58,28 @@ busy_told (Crowded b) is = cc
 
 -- ---- how it may end
 
-module _ (z : Sizes) (u : View) (r : Room) (left : ℕ) (v : View) where
-  insert_not_gone : (t : Attempt) (had : ℕ) → HasOutcome z u job.Insert t r (Gone had) left v → ⊥
-  insert_not_gone t had h = let no : job.Insert ≡ job.Remove = sym h.job ∙ h.fits.0 in cc
-
-  insert_not_absent : (t : Attempt) → HasOutcome z u job.Insert t r Absent left v → ⊥
-  insert_not_absent t h = let no : job.Insert ≡ job.Remove = sym h.job ∙ h.fits.0 in cc
-
-  remove_not_new : (t : Attempt) → HasOutcome z u job.Remove t r New left v → ⊥
-  remove_not_new t h = let no : job.Remove ≡ job.Insert = sym h.job ∙ h.fits.0 in cc
-
-  remove_not_present : (t : Attempt) (stands : ℕ) → HasOutcome z u job.Remove t r (Present stands) left v → ⊥
-  remove_not_present t stands h = let no : job.Remove ≡ job.Insert = sym h.job ∙ h.fits.0 in cc
-
-  remove_not_full : (t : Attempt) → (pool : _) → HasOutcome z u job.Remove t r (Full pool) left v → ⊥
-  remove_not_full t pool h = let no : job.Remove ≡ job.Insert = sym h.job ∙ h.fits.0 in cc
-
-  remove_not_overlaps : (t : Attempt) → HasOutcome z u job.Remove t r Overlaps left v → ⊥
-  remove_not_overlaps t h = let no : job.Remove ≡ job.Insert = sym h.job ∙ h.fits.0 in cc
-
 module _ (z : Sizes) (u : View) (ps : List Place) (m : Write) (r : Room) (qs : List Place) (v : View) where
-  same_outcome : (j : Job) (o : Outcome) → m.job ≡ j → m.outcome ≡ o → (began : View) (s : Room) (left : ℕ) (w : View) → HasOutcome z began m.job m.attempt s m.outcome left w
-      → HasOutcome z began j m.attempt s o left w
-  same_outcome j o is so began s left w fits =
-      subst (λ (a : Outcome). HasOutcome z began j m.attempt s a left w) so (subst (λ (i : Job). HasOutcome z began i m.attempt s m.outcome left w) is fits)
+  insert_may : (k : ArrayVec ℕ) (value : ℕ) (o : Outcome) → m.job ≡ job.Insert → IsDone z u ps o m r qs v → may_end (Insert k value) (of_write o) ≡ true
+  insert_may k value New is done = refl
+  insert_may k value (Present stands) is done = refl
+  insert_may k value (Full pool) is done = refl
+  insert_may k value (Exhausted c) is done = refl
+  insert_may k value Overlaps is done = refl
+  insert_may k value Busy is done = refl
+  insert_may k value (Crowded b) is done = refl
+  insert_may k value (Gone had) is done = let no : job.Insert ≡ job.Remove = sym is ∙ done.outcome.0 in cc
+  insert_may k value Absent is done = let no : job.Insert ≡ job.Remove = sym is ∙ done.outcome.0 in cc
 
-  insert_may : (k : ArrayVec ℕ) (value : ℕ) (o : Outcome) → m.job ≡ job.Insert → m.outcome ≡ o → IsDone z u ps o m r qs v → may_end (Insert k value) (of_write o) ≡ true
-  insert_may k value New is so done = refl
-  insert_may k value (Present stands) is so done = refl
-  insert_may k value (Full pool) is so done = refl
-  insert_may k value (Exhausted c) is so done = refl
-  insert_may k value Overlaps is so done = refl
-  insert_may k value Busy is so done = refl
-  insert_may k value (Crowded b) is so done = refl
-  insert_may k value (Gone had) is so done =
-      let d = done.0 in
-      let s = record r { stock = d.stock } in
-      absurd (insert_not_gone z d.began s m.left d.ended m.attempt had (same_outcome job.Insert (Gone had) is so d.began s m.left d.ended d.outcome))
-  insert_may k value Absent is so done =
-      let d = done.0 in
-      let s = record r { stock = d.stock } in
-      absurd (insert_not_absent z d.began s m.left d.ended m.attempt (same_outcome job.Insert Absent is so d.began s m.left d.ended d.outcome))
-
-  remove_may : (k : ArrayVec ℕ) (o : Outcome) → m.job ≡ job.Remove → m.outcome ≡ o → IsDone z u ps o m r qs v → may_end (Remove k) (of_write o) ≡ true
-  remove_may k (Gone had) is so done = refl
-  remove_may k Absent is so done = refl
-  remove_may k (Exhausted c) is so done = refl
-  remove_may k Busy is so done = refl
-  remove_may k (Crowded b) is so done = refl
-  remove_may k New is so done =
-      let d = done.0 in
-      let s = record r { stock = d.stock } in
-      absurd (remove_not_new z d.began s m.left d.ended m.attempt (same_outcome job.Remove New is so d.began s m.left d.ended d.outcome))
-  remove_may k (Present stands) is so done =
-      let d = done.0 in
-      let s = record r { stock = d.stock } in
-      absurd (remove_not_present z d.began s m.left d.ended m.attempt stands (same_outcome job.Remove (Present stands) is so d.began s m.left d.ended d.outcome))
-  remove_may k (Full pool) is so done =
-      let d = done.0 in
-      let s = record r { stock = d.stock } in
-      absurd (remove_not_full z d.began s m.left d.ended m.attempt pool (same_outcome job.Remove (Full pool) is so d.began s m.left d.ended d.outcome))
-  remove_may k Overlaps is so done =
-      let d = done.0 in
-      let s = record r { stock = d.stock } in
-      absurd (remove_not_overlaps z d.began s m.left d.ended m.attempt (same_outcome job.Remove Overlaps is so d.began s m.left d.ended d.outcome))
+  remove_may : (k : ArrayVec ℕ) (o : Outcome) → m.job ≡ job.Remove → IsDone z u ps o m r qs v → may_end (Remove k) (of_write o) ≡ true
+  remove_may k (Gone had) is done = refl
+  remove_may k Absent is done = refl
+  remove_may k (Exhausted c) is done = refl
+  remove_may k Busy is done = refl
+  remove_may k (Crowded b) is done = refl
+  remove_may k New is done = let no : job.Remove ≡ job.Insert = sym is ∙ done.outcome.0 in cc
+  remove_may k (Present stands) is done = let no : job.Remove ≡ job.Insert = sym is ∙ done.outcome.0 in cc
+  remove_may k (Full pool) is done = let no : job.Remove ≡ job.Insert = sym is ∙ done.outcome.0 in cc
+  remove_may k Overlaps is done = let no : job.Remove ≡ job.Insert = sym is ∙ done.outcome.0 in cc
 
 -- ---- what a client sees
 
@@ -173,7 +130,7 @@ module _ (z : Sizes) (u : View) (c : Caller) (m : Write) (v : View) (o : Outcome
   write_called (Insert k value) given turns on few =
       let g = ground job.Insert k value turns on in
       record {
-        may = ap (may_end (Insert k value)) g.is ∙ insert_may z u g.waited g.ground.machine c.room (places_of c.limbo) v k value g.write g.ground.job_is g.ground.outcome_is g.ground.done;
+        may = ap (may_end (Insert k value)) g.is ∙ insert_may z u g.waited g.ground.machine c.room (places_of c.limbo) v k value g.write g.ground.job_is g.ground.done;
         tells = subst (SeesEvent u v) (insert_tells k value o) (tells job.Insert k value turns on);
         caller = caller job.Insert k value turns on;
         range = tt;
@@ -186,7 +143,7 @@ module _ (z : Sizes) (u : View) (c : Caller) (m : Write) (v : View) (o : Outcome
   write_called (Remove k) given turns on few =
       let g = ground job.Remove k 0 turns on in
       record {
-        may = ap (may_end (Remove k)) g.is ∙ remove_may z u g.waited g.ground.machine c.room (places_of c.limbo) v k g.write g.ground.job_is g.ground.outcome_is g.ground.done;
+        may = ap (may_end (Remove k)) g.is ∙ remove_may z u g.waited g.ground.machine c.room (places_of c.limbo) v k g.write g.ground.job_is g.ground.done;
         tells = subst (SeesEvent u v) (remove_tells k 0 o) (tells job.Remove k 0 turns on);
         caller = caller job.Remove k 0 turns on;
         range = tt;

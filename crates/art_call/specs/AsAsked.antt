@@ -4,7 +4,6 @@ use Rattle.art_change.specs.ArtAttempt.declared.rooms.Room.{Room}
 use Rattle.art_call.specs.declared.callers.Call.{Call}
 use Rattle.art_call.specs.declared.callers.Call.TheVariants as call
 use Rattle.art_call.specs.declared.callers.Caller.{Caller}
-use Rattle.art_change.specs.ArtAttempt.Asking.{Answers as WriteAnswers, IsAllowed}
 use Rattle.art_change.specs.Writes as writes
 use Rattle.art_change.specs.declared.writes.Write.{Write}
 use Rattle.art_epoch.specs.Limbo.{places_of}
@@ -29,8 +28,8 @@ pub record WriteMakes (z : Sizes) (v : View) (m : Write) (r : Room) (ps : List P
   pub asked : Action
   pub answer : Answer
   pub asks : writes.asks m r ps ≡ Some asked
-  pub allowed : IsAllowed z (writes.deed_at m r) r.change v asked
-  pub row : WriteAnswers z (writes.deed_at m r) r.change asked answer v w
+  pub allowed : writes.IsAllowed z m r v asked
+  pub row : writes.Answers z m r asked answer v w
   pub left : writes.steps_left n s qs < writes.steps_left m r ps
   pub fits : (u : View) (waited : List Place) → writes.Fits z u waited m r ps v → writes.Fits z u waited n s qs w
 

@@ -1,19 +1,18 @@
 //! Makes the steps of a call.
-ghost use Rattle.std.specs.Prelude.{◌≡◌, ◌≢◌, ℕ, ◌+◌, ◌≤◌, IfSome, IfNone, List, Some, true};
+ghost use Rattle.std.specs.Prelude.{◌≡◌, ◌≢◌, ℕ, ◌+◌, ◌≤◌, IfSome, IfNone, List, Option, Some, true};
 ghost use Rattle.art_call.specs.AsAsked.{GoesAsAsked, WriteGoes};
 ghost use Rattle.art_call.specs.Calls.{HasCalled, IsAdmitted, IsCalling, NoneOverlaps, Refuses, StaysApart, Wish, is_refusal, outcome_at, restarts_in, steps_left};
 ghost use Rattle.art_call.specs.Made.{MakesStep, is_told, tells};
 ghost use Rattle.art_call.specs.declared.outcomes.Outcome.{Outcome as OutcomeOf};
 ghost use Rattle.art_call.specs.declared.outcomes.Outcome.TheVariants.{Overlaps as overlaps};
-ghost use Rattle.art_change.specs.ArtAttempt.Asking.{Answers as WriteAnswers, IsAllowed};
 ghost use Rattle.art_change.specs.Writes as writes;
 ghost use Rattle.art_change.specs.Writes.{IsApart, SameRow};
 ghost use Rattle.art_change.specs.declared.writes.Outcome.{Outcome as WriteOutcome};
 ghost use Rattle.art_epoch.specs.Limbo.{places_of};
 ghost use Rattle.art_epoch.specs.declared.limbo.Place.{Place};
-ghost use Rattle.art_change.specs.ArtPlan.declared.changes.Change.{Change};
-ghost use Rattle.art_machine.specs.Acting.{Answers, telling};
+ghost use Rattle.art_machine.specs.Acting.{Answers, IsAllowed, telling};
 ghost use Rattle.art_machine.specs.declared.actions.Answer.{Answer as AnswerOf};
+ghost use Rattle.art_machine.specs.declared.actions.Effects.{Effects as EffectsOf};
 ghost use Rattle.art_look.specs.declared.path_buffers.PathBuffer.{PathBuffer as PathBufferOf};
 ghost use Rattle.art_look.specs.Asking.{MaySeek, stepped_by};
 ghost use Rattle.art_look.specs.Walks.{Settles};
@@ -51,10 +50,10 @@ fn tells(action: Action, answer: Answer) -> bool
 
 /// The step that a write made, if it made one.
 fn made_by_write(stepped: art_change::Stepped) -> Option<Made>
-    ensures some { IfSome result (λ made. (z : Sizes) (d : Deed) (c : Change) (v w : View) → IsAllowed z d c v stepped.action →
-        WriteAnswers z d c stepped.action stepped.answer v w → MakesStep z v w made) }
-    ensures none { IfNone result ((z : Sizes) (d : Deed) (c : Change) (v w : View) →
-        WriteAnswers z d c stepped.action stepped.answer v w → w ≡ v) }
+    ensures some { IfSome result (λ made. (z : Sizes) (e : Option EffectsOf) (v w : View) → IsAllowed z e v stepped.action →
+        Answers z e stepped.action stepped.answer v w → MakesStep z v w made) }
+    ensures none { IfNone result ((z : Sizes) (e : Option EffectsOf) (v w : View) →
+        Answers z e stepped.action stepped.answer v w → w ≡ v) }
 {
     if stepped.answer.steps() == 0 {
         return None;

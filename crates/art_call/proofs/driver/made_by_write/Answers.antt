@@ -4,21 +4,18 @@ use Rattle.art_call.proofs.StepKinds.{is_step}
 use Rattle.art_call.proofs.driver.made_by_write.Goals as goal
 use Rattle.art_call.specs.Kinds.{IsStep}
 use Rattle.art_call.specs.Made.{MakesAny}
-use Rattle.art_change.specs.ArtAttempt.Asking.{given}
 use Rattle.art_machine.proofs.Counting.{steps_made}
 use Rattle.art_machine.specs.Acting.{steps_in}
 use Rattle.art_step.specs.declared.step_kinds.StepKind.{StepKind}
 
 pub returns-then-steps-eq0-clause-none : goal.returns-then-steps-eq0-clause-none
-returns-then-steps-eq0-clause-none c z d change v w row =
-    let a = c.args.stepped.action in
-    none_made z (given d change a) a c.args.stepped.answer v w (sym c.steps.ensures ∙ c.if-steps-eq0.true) row
+returns-then-steps-eq0-clause-none c z o v w row =
+    none_made z o c.args.stepped.action c.args.stepped.answer v w (sym c.steps.ensures ∙ c.if-steps-eq0.true) row
 
 pub returns-clause-some : goal.returns-clause-some
-returns-clause-some c z d change v w may row =
+returns-clause-some c z o v w may row =
     let a = c.args.stepped.action in
     let r = c.args.stepped.answer in
-    let o = given d change a in
     let some = c.if-steps-eq0.false in
     let same = c.steps.ensures in
     let one : steps_in r ≡ 1 = ⊎_elim (λ (e : steps_in r ≡ 0). absurd (omega (arith, e, some, same))) (λ (e : steps_in r ≡ 1). e) (one_or_none r) in

@@ -108,7 +108,7 @@ returns-in-Some-clause-some g c =
     let i = l.invariant in
     let e = c.step-stepped.ensures in
     let w = g.S.Steps.view c.step-stepped.new.steps in
-    let made = c.in-Some.ensures.some (g.S.Steps.sizes l.steps) (writes.deed_at l.write l.room) l.room.change (g.S.Steps.view l.steps) w e.allowed e.row in
+    let made = c.in-Some.ensures.some (g.S.Steps.sizes l.steps) (writes.brings_at l.write.stage l.room c.step-stepped.result.action) (g.S.Steps.view l.steps) w e.allowed e.row in
     subst (λ (v : View). MakesStep (g.S.Steps.sizes c.args.steps.now) v w c.in-Some.made) i.same
     (subst (λ (z : Sizes). MakesStep z (g.S.Steps.view l.steps) w c.in-Some.made) (g.met.S.Steps.only_sizes c.args.steps.now l.steps i.only) made)
 
@@ -193,7 +193,7 @@ loop-steps-preserved g c =
     let v = g.S.Steps.view l.steps in
     let w = g.S.Steps.view c.step-stepped.new.steps in
     let sizes = g.met.S.Steps.only_sizes c.args.steps.now l.steps i.only in
-    let none = c.in_default.ensures.none (g.S.Steps.sizes l.steps) (writes.deed_at l.write l.room) l.room.change v w e.row in
+    let none = c.in_default.ensures.none (g.S.Steps.sizes l.steps) (writes.brings_at l.write.stage l.room c.step-stepped.result.action) v w e.row in
     let left = i.left in
     let less = e.left in
     record {
