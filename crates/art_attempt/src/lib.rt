@@ -83,14 +83,17 @@
 //!
 //! # What stands beside it
 //!
-//! `Attempt` is a value of scalars with `next` and `told`. All that is large stands in the `Room`: the row, the leaf that goes, the
+//! `Attempt` is a value of scalars with `next` and `told`: its job, and the stage where it stands. A stage carries what is known
+//! there, and no more: the finding while the place is sought; then the place (`Placed`), with what is done there (`Part`) and the
+//! case of it, once it was chosen; then the making of the change. All that is large stands in the `Room`: the row, the leaf that goes, the
 //! numbers in hand, the words that were read, the bodies of the cells that are written, the change. The room's row stays as it is,
 //! but for the number that its leaf has.
 //!
 //! # What is proved
 //!
 //! Each step may be made, and each answer keeps what the machine knows (`Fits`). How it ends is said of the view with which it
-//! began (`EndFits`), with the grounds of each refusal.
+//! began (`EndFits`), with the grounds of each refusal. The place and the case of a change are fields of what is known of it from its
+//! first step on: the machine has no more need of them.
 //!
 //! While numbers come, nothing of the view changes but steps, failures, what was found, and the hand. A reserve is `Full` only
 //! where a number of that pool was wanted, and each free word was found without a bit or lost its bit to another pass. It makes
