@@ -68,16 +68,16 @@ sought_none sought.Seen (Some x) is = cc
 sought_none sought.Seen None is = cc
 sought_none sought.Busy seen is = cc
 
-ended_so : (s : Stage) (o x : WriteOutcome) → writes.outcome_at s o ≡ Some x → o ≡ x
-ended_so stage.Enter o x is = cc
-ended_so stage.Trying o x is = cc
-ended_so stage.Exit o x is = cc
-ended_so stage.Ended o x is = same_Some o x is
+ended_in : (s : Stage) (o : WriteOutcome) → writes.outcome_at s ≡ Some o → writes.outcome_in s ≡ Some o
+ended_in (stage.Enter e) o is = cc
+ended_in (stage.Trying t) o is = cc
+ended_in (stage.Exit x a) o is = cc
+ended_in (stage.Ended a) o is = is
 
 ends_apart : (c : Caller) (m : Call) → stays_apart m → outcome_of c m ≢ Some outcome.Overlaps
 ends_apart c (call.Write m) apart is =
     let o = some_mapped of_write (writes.ended_at m) outcome.Overlaps is in
-    apart (ended_so m.stage m.outcome o.0 o.1 ∙ wrote_overlap o.0 o.2)
+    apart (ended_in m.stage o.0 o.1 ∙ ap (λ (a : WriteOutcome). Some a) (wrote_overlap o.0 o.2))
 ends_apart c (call.Seek m) apart is = let o = some_mapped _ _ outcome.Overlaps is in absurd (sought_none o.0 _ o.2)
 
 is_apart : (a : Op) → StaysApart (caller_in a) → IsApart a

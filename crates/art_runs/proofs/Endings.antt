@@ -49,11 +49,11 @@ exit_left Labelling s going = omega arith
 exit_left Giving s going = omega arith
 exit_left Ended s going = absurd (cc)
 
-write_left : (z : Sizes) (u v : View) (ps qs : List Place) (m : Write) (r : Room) (s : Stage) → writes.StageFits z u ps s m r qs v → writes.outcome_at s m.outcome ≡ None → 0 < writes.left_at s m r qs
-write_left z u v ps qs m r write.Enter fits going = omega arith
-write_left z u v ps qs m r write.Trying fits going = omega arith
-write_left z u v ps qs m r write.Exit fits going = exit_left m.exit r.stock fits.1
-write_left z u v ps qs m r write.Ended fits going = absurd (cc)
+write_left : (z : Sizes) (u v : View) (ps qs : List Place) (m : Write) (r : Room) (s : Stage) → writes.StageFits z u ps s m r qs v → writes.outcome_at s ≡ None → 0 < writes.left_at s m.left r qs
+write_left z u v ps qs m r (write.Enter e) fits going = omega arith
+write_left z u v ps qs m r (write.Trying t) fits going = omega arith
+write_left z u v ps qs m r (write.Exit x o) fits going = exit_left x r.stock fits.1
+write_left z u v ps qs m r (write.Ended o) fits going = absurd (cc)
 
 seek_left : (m : Seek) (s : SeekStage) → seeks.outcome_at s m.outcome ≡ None → 0 < seeks.left_at s m
 seek_left m seek.Pinning going = omega arith

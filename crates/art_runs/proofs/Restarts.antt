@@ -15,6 +15,7 @@ use Rattle.art_call.proofs.ArtChange.Counted.{write_counted}
 use Rattle.art_call.proofs.ArtChange.Endings.{left_by}
 use Rattle.art_call.specs.ArtChange.Writes as writes
 use Rattle.art_call.specs.ArtChange.Writes.{IsExiting, gone_by}
+use Rattle.art_call.specs.ArtChange.declared.writes.Outcome.{Outcome as WriteOutcome}
 use Rattle.art_call.specs.ArtChange.declared.writes.Stage.{Stage}
 use Rattle.art_call.specs.ArtChange.declared.writes.Stage.TheVariants as stage
 use Rattle.art_call.specs.ArtChange.declared.writes.Write.{Write}
@@ -63,24 +64,24 @@ exit_same z k value u v ps qs us s Giving fits = ap (λ (x : View). x.failures) 
 exit_same z k value u v ps qs us s Ended fits = ap (λ (x : View). x.failures) fits.0.is
 
 module _ (z : Sizes) (u : View) (ps : List Place) (n : Write) (r : Room) (qs : List Place) (v : View) where
-  exit_failed : IsExiting z u ps n r qs v → u.failures + n.restarts ≤ v.failures
-  exit_failed k =
+  exit_failed : (x : Exit) (o : WriteOutcome) → IsExiting z u ps n x o r qs v → u.failures + n.restarts ≤ v.failures
+  exit_failed x o k =
       let failed = k.begun.failed in
-      let more = (left_by z k.began (record r { stock = k.stock }) k.ended n.job n.attempt n.outcome n.left k.outcome).later.failures in
+      let more = (left_by z k.began (record r { stock = k.stock }) k.ended n.job k.position k.case o n.left k.outcome).later.failures in
       let first = ap (λ (x : View). x.failures) k.frame.frame.is in
-      let last = exit_same z r.row.key.items r.row.value k.ended v k.waiting qs (links_of (gone_by n.outcome r.change)) r.stock n.exit k.fits in
+      let last = exit_same z r.row.key.items r.row.value k.ended v k.waiting qs (links_of (gone_by o r.change)) r.stock x k.fits in
       omega (arith, failed, more, first, last)
 
   write_failed : (s : Stage) → writes.StageFits z u ps s n r qs v → v.failures ≡ u.failures → n.restarts ≡ 0
-  write_failed stage.Enter fits none = fits.fresh
-  write_failed stage.Trying fits none =
+  write_failed (stage.Enter e) fits none = fits.fresh
+  write_failed (stage.Trying i) fits none =
       let t = fits.0 in
       let failed = t.begun.failed in
-      let more = attempt_later z t.began r v n.attempt n.attempt.stage t.fits.stage t.going in
+      let more = attempt_later z t.began r v i i.stage t.fits.stage t.going in
       let first = ap (λ (x : View). x.failures) t.frame.frame.is in
       omega (arith, failed, more, first, none)
-  write_failed stage.Exit fits none = let failed = exit_failed fits.0 in omega (arith, failed, none)
-  write_failed stage.Ended fits none = let failed = (write_counted z u ps n r qs v n.outcome refl fits).failed in omega (arith, failed, none)
+  write_failed (stage.Exit x o) fits none = let failed = exit_failed x o fits.0 in omega (arith, failed, none)
+  write_failed (stage.Ended o) fits none = let failed = (write_counted z u ps n r qs v o fits).failed in omega (arith, failed, none)
 
 -- ---- a seek
 

@@ -151,9 +151,9 @@ module _ (z : Sizes) (u : View) (ps : List Place) (m : Write) (r : Room) (qs : L
   abbrev Tells : Type 0
   Tells = (v.own ≡ u.own) ⊎ SeesSome m.job r.row.key r.row.value u v
 
-  trying_tells : length r.row.key.items ≤ 64 → IsTrying z u ps m r qs v → Tells
-  trying_tells short k =
-      let some = tries_some z k.began r v m.job m.attempt k.job short k.fits k.going in
+  trying_tells : (t : Attempt) → length r.row.key.items ≤ 64 → IsTrying z u ps m t r qs v → Tells
+  trying_tells t short k =
+      let some = tries_some z k.began r v m.job t k.job short k.fits k.going in
       let what = writes.told_by some.0 m.job r.row.key r.row.value in
       let opened = k.frame.frame.is in
       inr (
@@ -162,21 +162,21 @@ module _ (z : Sizes) (u : View) (ps : List Place) (m : Write) (r : Room) (qs : L
             (since_tries k.opened k.began v what k.begun.base some.1),
       )
 
-  exit_tells : IsExiting z u ps m r qs v → Tells
-  exit_tells k =
-      let same = close_tells z r.row.key.items r.row.value k.ended v k.waiting qs (links_of (gone_by m.outcome r.change)) r.stock m.exit k.fits in
+  exit_tells : (x : Exit) (o : WriteOutcome) → IsExiting z u ps m x o r qs v → Tells
+  exit_tells x o k =
+      let same = close_tells z r.row.key.items r.row.value k.ended v k.waiting qs (links_of (gone_by o r.change)) r.stock x k.fits in
       let opened = k.frame.frame.is in
       inr (
-        m.outcome,
+        o,
         sees_all u k.opened k.ended v (ap (λ (t : View). t.seen) opened) (ap (λ (t : View). t.own) opened) (ap (λ (t : View). t.pass) opened) same.0 same.1
-            (writes.told_by m.outcome m.job r.row.key r.row.value) (left_opened z u ps m r qs v k).tells,
+            (writes.told_by o m.job r.row.key r.row.value) (left_opened z u ps m r qs v x o k).tells,
       )
 
   write_tells : (s : Stage) → length r.row.key.items ≤ 64 → StageFits z u ps s m r qs v → Tells
-  write_tells stages.Enter short fits = inl (enter_same z u v ps qs m.enter fits.enter fits.going).1
-  write_tells stages.Trying short fits = trying_tells short fits.0
-  write_tells stages.Exit short fits = exit_tells fits.0
-  write_tells stages.Ended short fits = inr (m.outcome, (answered z u ps m r qs v m.outcome refl fits).tells)
+  write_tells (stages.Enter e) short fits = inl (enter_same z u v ps qs e fits.enter fits.going).1
+  write_tells (stages.Trying t) short fits = trying_tells t short fits.0
+  write_tells (stages.Exit x o) short fits = exit_tells x o fits.0
+  write_tells (stages.Ended o) short fits = inr (o, (answered z u ps m r qs v o fits).tells)
 
 insert_tells : (k : ArrayVec ℕ) (value : ℕ) (o : WriteOutcome) → told_by (Insert k value) (of_write o) ≡ writes.told_by o job.Insert k value
 insert_tells k value write.New = refl

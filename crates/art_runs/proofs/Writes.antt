@@ -4,7 +4,7 @@ use Rattle.art_call.specs.ArtAttempt.declared.rooms.Room.{Room}
 use Rattle.art_call.specs.AsAsked.{WriteMakes}
 use Rattle.art_call.specs.ArtAttempt.Asking.{Answers, IsAllowed, given}
 use Rattle.art_call.proofs.ArtChange.FrameSteps.{IsFrame, exit_frame, enter_frame}
-use Rattle.art_call.specs.ArtChange.Writes.{Fits, StageFits, asks_at, deed_at, left_at, steps_left}
+use Rattle.art_call.specs.ArtChange.Writes.{Fits, StageFits, asks_at, brings_at, left_at, steps_left}
 use Rattle.art_call.specs.ArtAttempt.Attempts as attempts
 use Rattle.art_call.specs.ArtAttempt.declared.attempts.Attempt.{Attempt}
 use Rattle.art_call.specs.ArtChange.declared.writes.Stage.{Stage}
@@ -16,6 +16,7 @@ use Rattle.art_call.specs.ArtEpoch.Stocks.{count_in, one_of}
 use Rattle.art_call.specs.ArtEpoch.declared.exit.Exit.{Exit}
 use Rattle.art_call.specs.ArtEpoch.declared.exit.Exit.TheVariants.{Labelling, Giving, Ended}
 use Rattle.art_call.specs.ArtEpoch.declared.stocks.Stock.{Stock}
+use Rattle.art_machine.specs.Acting as acting
 use Rattle.art_machine.specs.declared.actions.Action.{Action}
 use Rattle.art_machine.specs.declared.actions.Answer.{Answer}
 use Rattle.art_runs.proofs.Calm.{IsMoment, calm_current, frame_calm}
@@ -64,16 +65,16 @@ module _ (z : Sizes) (p : ℕ) (m : Memory) (f : Views) (m' : Memory) (f' : View
     failures : w.failures ≡ v.failures
     keeps : v.own ≡ u.own → w.own ≡ v.own → 582 < left → AreCurrent m' w
 
-  module _ (at : IsMoment z p m f m' f' v w) (d : Deed) (r : Room) where
-    module _ (a : Action) (answer : Answer) (may : IsAllowed z d r.change v a) (row : Answers z d r.change a answer v w) where
-      frame_goes : (left : ℕ) → IsFrame a → (v.own ≡ u.own → 582 < left → AreCurrent m v) → Goes left
-      frame_goes left is current =
-          let calm = frame_calm z p m f m' f' v w at (given d r.change a) a answer is row in
-          record {
-            failures = calm.failures;
-            keeps = λ own stays many. calm_current z p m f m' f' v w at calm stays (current own many);
-          }
+  module _ (at : IsMoment z p m f m' f' v w) (r : Room) (a : Action) (answer : Answer) where
+    frame_goes : (left : ℕ) → acting.Answers z None a answer v w → IsFrame a → (v.own ≡ u.own → 582 < left → AreCurrent m v) → Goes left
+    frame_goes left row is current =
+        let calm = frame_calm z p m f m' f' v w at None a answer is row in
+        record {
+          failures = calm.failures;
+          keeps = λ own stays many. calm_current z p m f m' f' v w at calm stays (current own many);
+        }
 
+    module _ (d : Deed) (may : IsAllowed z d r.change v a) (row : Answers z d r.change a answer v w) where
       attempt_goes : (b : View) (t : Attempt) (left : ℕ) → u.steps ≤ b.steps → u.failures ≤ b.failures → b.own ≡ u.own → attempts.Fits z b t r v → (attempts.is_free t ≡ true → 0 < left)
           → attempts.asks t r ≡ Some a → (v.own ≡ u.own → 582 < attempts.steps_left left t + 7 → AreCurrent m v) → Goes (attempts.steps_left left t + 7)
       attempt_goes b t left late low begun fits some is current =
@@ -85,28 +86,29 @@ module _ (z : Sizes) (p : ℕ) (m : Memory) (f : Views) (m' : Memory) (f' : View
                 (λ up. attempt_release z b v r a left t t.stage fits.stage is up (own ∙ sym begun) (omega (arith, none, low)) (omega (arith, many))) may row;
           }
 
-      module _ (ps qs : List Place) (n : Write) where
-        write_goes : (s : Stage) → StageFits z u ps s n r qs v → (v.own ≡ u.own → 582 < left_at s n r qs → AreCurrent m v) → asks_at s n r qs ≡ Some a → Goes (left_at s n r qs)
-        write_goes stage.Enter fits current is = frame_goes (left_at stage.Enter n r qs) (enter_frame n.enter qs a is) current
-        write_goes stage.Trying fits current is =
-            let t = fits.0 in
-            let first = t.frame.later in
-            let later = t.begun.base.later.steps in
-            let more = t.begun.base.later.failures in
-            let opened = ap (λ (x : View). x.failures) t.frame.frame.is in
-            let own : t.began.own ≡ u.own = ap (λ (o : Rest). o.own) t.begun.base.rest ∙ ap (λ (x : View). x.own) t.frame.frame.is in
-            attempt_goes t.began n.attempt n.left (omega (arith, first, later)) (omega (arith, more, opened)) own t.fits fits.1 is current
-        write_goes stage.Exit fits current is =
-            let few = exit_few n.exit r.stock in
-            let g = frame_goes (exits.steps_left n.exit r.stock) (exit_frame n.exit r.stock a is) (λ own many. absurd (omega (arith, many, few))) in
-            record { failures = g.failures; keeps = g.keeps }
-        write_goes stage.Ended fits current is = absurd (cc)
+    module _ (ps qs : List Place) (n : Write) where
+      write_goes : (s : Stage) → acting.IsAllowed z (brings_at s r a) v a → acting.Answers z (brings_at s r a) a answer v w → StageFits z u ps s n r qs v
+          → (v.own ≡ u.own → 582 < left_at s n.left r qs → AreCurrent m v) → asks_at s r qs ≡ Some a → Goes (left_at s n.left r qs)
+      write_goes (stage.Enter e) may row fits current is = frame_goes (left_at (stage.Enter e) n.left r qs) row (enter_frame e qs a is) current
+      write_goes (stage.Trying i) may row fits current is =
+          let t = fits.0 in
+          let first = t.frame.later in
+          let later = t.begun.base.later.steps in
+          let more = t.begun.base.later.failures in
+          let opened = ap (λ (x : View). x.failures) t.frame.frame.is in
+          let own : t.began.own ≡ u.own = ap (λ (o : Rest). o.own) t.begun.base.rest ∙ ap (λ (x : View). x.own) t.frame.frame.is in
+          attempt_goes (attempts.deed_at i r) may row t.began i n.left (omega (arith, first, later)) (omega (arith, more, opened)) own t.fits fits.1 is current
+      write_goes (stage.Exit x o) may row fits current is =
+          let few = exit_few x r.stock in
+          let g = frame_goes (exits.steps_left x r.stock) row (exit_frame x r.stock a is) (λ own many. absurd (omega (arith, many, few))) in
+          record { failures = g.failures; keeps = g.keeps }
+      write_goes (stage.Ended o) may row fits current is = absurd (cc)
 
   -- what was asked for was made
   pub write_makes : (n : Write) (r : Room) (ps qs : List Place) (a : Write) (s : Room) (rs : List Place) → IsMoment z p m f m' f' v w → Fits z u ps n r qs v → IsCurrentFor m v (steps_left n r qs) → WriteMakes z v n r qs w a s rs
       → (w.failures ≡ v.failures) × IsCurrentFor m' w (steps_left a s rs)
   write_makes n r ps qs a s rs at fits current makes =
-      let g = write_goes at (deed_at n r) r makes.asked makes.answer makes.allowed makes.row ps qs n n.stage fits.stage current makes.asks in
+      let g = write_goes at r makes.asked makes.answer ps qs n n.stage makes.allowed makes.row fits.stage current makes.asks in
       let less = makes.left in
       let low = had.events in (
         g.failures,
