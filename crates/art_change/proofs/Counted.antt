@@ -4,8 +4,7 @@ use Rattle.art_attempt.specs.declared.rooms.Room.{Room}
 use Rattle.art_change.proofs.Answered.{closed_at}
 use Rattle.art_change.proofs.Endings.{left_by}
 use Rattle.art_attempt.specs.Attempts.{EndsSo}
-use Rattle.art_attempt.specs.declared.attempts.Attempt.{Attempt}
-use Rattle.art_change.specs.Writes.{HasCounted, OutcomeBy, IsExiting, IsDone, UsedTurns}
+use Rattle.art_change.specs.Writes.{HasCounted, HasOutcome, OutcomeBy, IsExiting, IsDone, UsedTurns}
 use Rattle.art_change.specs.declared.writes.Outcome.{Outcome}
 use Rattle.art_change.specs.declared.writes.Outcome.TheVariants.{New, Present, Gone, Absent, Full, Exhausted, Overlaps, Busy, Crowded}
 use Rattle.art_change.specs.declared.writes.Write.{Write}
@@ -38,16 +37,16 @@ module _ (z : Sizes) (u : View) (ps : List Place) (m : Write) (r : Room) (qs : L
         }
 
     -- an outcome that says so came at the last turn
-    at_last : (t : Attempt) (o : Outcome) → OutcomeBy z k.began t.job t.position t.case (record r { stock = k.stock }) o m.left k.ended → o ≡ Busy → UsedTurns z u m.turns v
-    at_last t Busy h busy = used_turns h.0 h.1
-    at_last t New h busy = cc
-    at_last t (Present stands) h busy = cc
-    at_last t (Gone value) h busy = cc
-    at_last t Absent h busy = cc
-    at_last t (Full pool) h busy = cc
-    at_last t (Exhausted c) h busy = cc
-    at_last t Overlaps h busy = cc
-    at_last t (Crowded b) h busy = cc
+    at_last : (h : HasOutcome z k.began m.job m.attempt (record r { stock = k.stock }) m.outcome m.left k.ended) (o : Outcome) → OutcomeBy z k.began m.attempt.job h.position h.case (record r { stock = k.stock }) o m.left k.ended → o ≡ Busy → UsedTurns z u m.turns v
+    at_last e Busy h busy = used_turns h.0 h.1
+    at_last e New h busy = cc
+    at_last e (Present stands) h busy = cc
+    at_last e (Gone value) h busy = cc
+    at_last e Absent h busy = cc
+    at_last e (Full pool) h busy = cc
+    at_last e (Exhausted c) h busy = cc
+    at_last e Overlaps h busy = cc
+    at_last e (Crowded b) h busy = cc
 
     exit_counted : HasCounted z u m.turns m.restarts m.outcome v
     exit_counted = record {
@@ -57,7 +56,7 @@ module _ (z : Sizes) (u : View) (ps : List Place) (m : Write) (r : Room) (qs : L
           let first = opened_failures in
           let last = closed_failures in
           omega (arith, failed, more, first, last);
-      busy = at_last m.attempt m.outcome k.outcome.fits;
+      busy = at_last k.outcome m.outcome k.outcome.fits;
     }
 
   pub write_counted : (o : Outcome) → m.outcome ≡ o → IsDone z u ps o m r qs v → HasCounted z u m.turns m.restarts o v

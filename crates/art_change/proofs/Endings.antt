@@ -36,11 +36,8 @@ use Rattle.art_epoch.proofs.Waiting.{commit_waits}
 
 ended_stage : (s : Stage) (e : Ending) → ending_at s ≡ Some e → s ≡ stage.Ended e
 ended_stage (stage.Ended a) e is = ap stage.Ended (same_Some {A = Ending} a e is)
-ended_stage stage.Finding e is = cc
-ended_stage (stage.Reserve s) e is = cc
-ended_stage (stage.Reading q) e is = cc
-ended_stage (stage.Validate s) e is = cc
-ended_stage (stage.Naming byte n s) e is = cc
+ended_stage (stage.Finding f) e is = cc
+ended_stage (stage.Placed t p) e is = cc
 ended_stage (stage.Apply s) e is = cc
 
 -- nothing was told
@@ -60,10 +57,10 @@ module _ (z : Sizes) (u : View) (r : Room) (v : View) where
   refused_so t (ending.Present stands) none fits = absurd none
   refused_so t (ending.Gone value) none fits = absurd none
   refused_so t ending.Absent none fits = absurd none
-  refused_so t (ending.Full pool) none fits = fits.1
-  refused_so t (ending.Exhausted c) none fits = fits.0
-  refused_so t ending.Overlaps none fits = fits.1
-  refused_so t ending.Restart none fits = fits.0
+  refused_so t (ending.Full pool) none fits = fits.ends.1
+  refused_so t (ending.Exhausted c) none fits = fits.ends.0
+  refused_so t ending.Overlaps none fits = fits.ends.1
+  refused_so t ending.Restart none fits = fits.ends.0
 
 pub ended_steps : (left : ℕ) (t : Attempt) (e : Ending) → ended_at t ≡ Some e → steps_left left t ≡ ended_left left e
 ended_steps left t e is = ap (left_at left) (ended_stage t.stage e is)
@@ -134,7 +131,7 @@ module _ (z : Sizes) (u : View) (r : Room) (v : View) where
   left_of j t c (Crowded b) left h = absurd h
 
   pub left_by : (j : Job) (t : Attempt) (o : Outcome) (left : ℕ) → HasOutcome z u j t r o left v → IsLeft z u j r o v
-  left_by j t o left h = left_of j t.position t.case o left (subst (λ (k : Job). OutcomeBy z u k t.position t.case r o left v) h.job h.fits)
+  left_by j t o left h = left_of j h.position h.case o left (subst (λ (k : Job). OutcomeBy z u k h.position h.case r o left v) h.job h.fits)
 
 -- what an attempt left that began later is left since the pass was pinned
 module _ (z : Sizes) (u b : View) (base : StillTries u b) where

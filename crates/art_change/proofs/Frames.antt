@@ -4,7 +4,7 @@ use Rattle.std.proofs.lemmas.Bool.{cases_Bool, eqb-true}
 use Rattle.std.proofs.lemmas.Option.{same_Some}
 use Rattle.art_attempt.proofs.Left.{free_few}
 use Rattle.art_attempt.proofs.Tries.{later_first, still_then}
-use Rattle.art_attempt.specs.Attempts.{EndFits, EndsSo, Fits, HasHand, IsRoom, ended_at, ended_left, is_free, tries_left}
+use Rattle.art_attempt.specs.Attempts.{EndFits, EndsBy, EndsSo, Fits, HasHand, IsRoom, ended_at, ended_left, is_free, tries_left}
 use Rattle.art_attempt.specs.Trying.{StillTries}
 use Rattle.art_attempt.specs.declared.rooms.Room.{Room}
 use Rattle.art_change.proofs.Endings.{left_by, left_since}
@@ -13,6 +13,8 @@ use Rattle.art_attempt.specs.declared.attempts.Job.{Job}
 use Rattle.art_attempt.specs.declared.attempts.Ending.{Ending}
 use Rattle.art_attempt.specs.declared.attempts.Ending.TheVariants as ending
 use Rattle.art_attempt.specs.declared.attempts.Attempt.{Attempt}
+use Rattle.art_attempt.specs.declared.cases.Case.{Case}
+use Rattle.art_find.specs.declared.findings.Position.{Position}
 use Rattle.art_change.specs.declared.writes.Write.{Write}
 use Rattle.art_change.specs.declared.writes.Outcome.{Outcome}
 use Rattle.art_change.specs.declared.writes.Outcome.TheVariants.{New, Present, Gone, Absent, Full, Exhausted, Overlaps, Busy, Crowded}
@@ -116,27 +118,29 @@ may_close z u opened began ps qs frame base j t r v o left h few =
 -- ---- how the write ends by how an attempt did
 
 module _ (z : Sizes) (u : View) (t : Attempt) (r : Room) (left : ℕ) (v : View) where
-  abbrev Ends : Outcome → Type 0
-  Ends o = OutcomeBy z u t.job t.position t.case r o left v
+  -- of this place, in this case
+  module _ (at : Position) (case : Case) where
+    abbrev Ends : Outcome → Type 0
+    Ends o = OutcomeBy z u t.job at case r o left v
 
-  or_busy_ends : (o : Outcome) → EndsSo z u r v → Ends o → Ends (or_busy left o)
-  or_busy_ends o so ends = ⊎_elim
-      (λ (e : (left == 0) ≡ true). rw e (so, eqb-true left 0 e))
-      (λ (e : (left == 0) ≡ false). rw e ends)
-      (cases_Bool (left == 0))
+    or_busy_ends : (o : Outcome) → EndsSo z u r v → Ends o → Ends (or_busy left o)
+    or_busy_ends o so ends = ⊎_elim
+        (λ (e : (left == 0) ≡ true). rw e (so, eqb-true left 0 e))
+        (λ (e : (left == 0) ≡ false). rw e ends)
+        (cases_Bool (left == 0))
 
-  ends_by : (e : Ending) (o : Outcome) → EndFits z u t r e v → outcome_of left e ≡ Some o → Ends o
-  ends_by ending.New o fits is = subst Ends (same_Some {A = Outcome} New o is) fits
-  ends_by (ending.Present stands) o fits is = subst Ends (same_Some {A = Outcome} (Present stands) o is) fits
-  ends_by (ending.Gone value) o fits is = subst Ends (same_Some {A = Outcome} (Gone value) o is) fits
-  ends_by ending.Absent o fits is = subst Ends (same_Some {A = Outcome} Absent o is) fits
-  ends_by (ending.Full pool) o fits is = subst Ends (same_Some {A = Outcome} (or_busy left (Full pool)) o is) (or_busy_ends (Full pool) fits.1 fits)
-  ends_by (ending.Exhausted c) o fits is = subst Ends (same_Some {A = Outcome} (Exhausted c) o is) fits
-  ends_by ending.Overlaps o fits is = subst Ends (same_Some {A = Outcome} (or_busy left Overlaps) o is) (or_busy_ends Overlaps fits.1 fits)
-  ends_by ending.Restart o fits is = cc
+    ends_by : (e : Ending) (o : Outcome) → EndsBy z u t.job at case r e v → outcome_of left e ≡ Some o → Ends o
+    ends_by ending.New o fits is = subst Ends (same_Some {A = Outcome} New o is) fits
+    ends_by (ending.Present stands) o fits is = subst Ends (same_Some {A = Outcome} (Present stands) o is) fits
+    ends_by (ending.Gone value) o fits is = subst Ends (same_Some {A = Outcome} (Gone value) o is) fits
+    ends_by ending.Absent o fits is = subst Ends (same_Some {A = Outcome} Absent o is) fits
+    ends_by (ending.Full pool) o fits is = subst Ends (same_Some {A = Outcome} (or_busy left (Full pool)) o is) (or_busy_ends (Full pool) fits.1 fits)
+    ends_by (ending.Exhausted c) o fits is = subst Ends (same_Some {A = Outcome} (Exhausted c) o is) fits
+    ends_by ending.Overlaps o fits is = subst Ends (same_Some {A = Outcome} (or_busy left Overlaps) o is) (or_busy_ends Overlaps fits.1 fits)
+    ends_by ending.Restart o fits is = cc
 
   pub outcome_ends : (j : Job) → t.job ≡ j → (e : Ending) (o : Outcome) → EndFits z u t r e v → outcome_of left e ≡ Some o → HasOutcome z u j t r o left v
-  outcome_ends j job e o fits is = record { job = job; fits = ends_by e o fits is }
+  outcome_ends j job e o fits is = record { job = job; position = fits.position; case = fits.case; fits = ends_by fits.position fits.case e o fits.ends is }
 
   -- it is tried anew
   pub anew_ends : (e : Ending) → EndFits z u t r e v → outcome_of left e ≡ None → EndsSo z u r v × (u.failures < v.failures)
@@ -147,7 +151,7 @@ module _ (z : Sizes) (u : View) (t : Attempt) (r : Room) (left : ℕ) (v : View)
   anew_ends (ending.Full pool) fits is = cc
   anew_ends (ending.Exhausted c) fits is = cc
   anew_ends ending.Overlaps fits is = cc
-  anew_ends ending.Restart fits is = fits
+  anew_ends ending.Restart fits is = fits.ends
 
 pub none_anew : (left : ℕ) (e : Ending) → outcome_of left e ≡ None → e ≡ ending.Restart
 none_anew left ending.Restart is = refl

@@ -100,11 +100,8 @@ module _ (z : Sizes) (c : Change) (u v : View) where
 module _ (z : Sizes) (u : View) (m : Attempt) (r : Room) (v : View) where
   holds_at : (s : AttemptStage) → AttemptFits z u s m r v → ending_at s ≡ None → free_at s ≡ false → v.held ≢ []
   holds_at (attempt.Apply s) fits on free = apply_holds z r.change fits.0.early v s fits.0.fits fits.1 free
-  holds_at attempt.Finding fits on free = cc
-  holds_at (attempt.Reserve s) fits on free = cc
-  holds_at (attempt.Reading q) fits on free = cc
-  holds_at (attempt.Validate s) fits on free = cc
-  holds_at (attempt.Naming byte n s) fits on free = cc
+  holds_at (attempt.Finding f) fits on free = cc
+  holds_at (attempt.Placed t p) fits on free = cc
   holds_at (attempt.Ended e) fits on free = cc
 
   pub held_in : TryFits z u m r v → try_ended m ≡ None → is_free m ≡ false → v.held ≢ []
@@ -139,7 +136,7 @@ told_of z u j t c r (Crowded b) left v k value fits untold = cc
 is_told : (z : Sizes) (u : View) (j : Job) (t : Attempt) (r : Room) (o : Outcome) (left : ℕ) (v : View) (k : ArrayVec ℕ) (value : ℕ) → HasOutcome z u j t r o left v
     → is_refusal o ≡ false → (what : Deed) × (told_by o j k value ≡ Some what)
 is_told z u j t r o left v k value h untold =
-    told_of z u j t.position t.case r o left v k value (subst (λ (i : Job). OutcomeBy z u i t.position t.case r o left v) h.job h.fits) untold
+    told_of z u j h.position h.case r o left v k value (subst (λ (i : Job). OutcomeBy z u i h.position h.case r o left v) h.job h.fits) untold
 
 module _ (z : Sizes) (u : View) (ps : List Place) (m : Write) (r : Room) (qs : List Place) (v : View) where
   exit_told : IsExiting z u ps m r qs v → is_refusal m.outcome ≡ false → HoldsOrTold u v

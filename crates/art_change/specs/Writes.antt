@@ -4,6 +4,7 @@ use Rattle.arrayvec.specs.ArrayVec.{ArrayVec}
 use Rattle.art_attempt.specs.Attempts as attempts
 use Rattle.art_attempt.specs.Attempts.{EndsBy, EndsSo, GoesBy, HasHand, IsExhausted, IsFull, IsOverlap, IsRoom, absent, present, tries_left}
 use Rattle.art_attempt.specs.Trying.{IsLimited, StillTries}
+use Rattle.art_attempt.specs.Cases.{IsCaseOf}
 use Rattle.art_attempt.specs.declared.cases.Case.{Case}
 use Rattle.art_attempt.specs.declared.rooms.Room.{Room}
 use Rattle.art_cell.specs.declared.cells.Link.{Link}
@@ -149,10 +150,12 @@ OutcomeBy z u j t c r Overlaps left v = EndsBy z u j t c r ending.Overlaps v
 OutcomeBy z u j t c r Busy left v = EndsSo z u r v × (left ≡ 0)
 OutcomeBy z u j t c r (Crowded b) left v = ⊥
 
--- of an attempt of this job
+-- of an attempt of this job, of the place and the case of which its end speaks
 pub record HasOutcome (z : Sizes) (u : View) (j : Job) (t : Attempt) (r : Room) (o : Outcome) (left : ℕ) (v : View) : Type 0 where
   pub job : t.job ≡ j
-  pub fits : OutcomeBy z u t.job t.position t.case r o left v
+  pub position : Position
+  pub case : Case
+  pub fits : OutcomeBy z u t.job position case r o left v
 
 -- ---- what it knows, of a pass that had the view u when it began, where ps waited
 
@@ -291,16 +294,16 @@ pub record IsFresh (z : Sizes) (u : View) (own : ℕ) : Type 0 where
 
 -- why it ended so, of checks after the view u, by what the pass has at the end: the change that was made is the one that what was read and
 -- found tells; a refusal has its cause. Of an answer that a check told, its event says all; turns are counted elsewhere
-abbrev pub IsCause : Sizes → View → Attempt → Room → Outcome → View → Type 0
-IsCause z u m r New v = GoesBy z u m.position m.case r v
-IsCause z u m r (Gone value) v = GoesBy z u m.position m.case r v
-IsCause z u m r (Full pool) v = IsFull z u m.position r pool v
-IsCause z u m r (Exhausted x) v = IsExhausted z u m.job m.position m.case r x v
-IsCause z u m r Overlaps v = IsOverlap z u m.position r v
-IsCause z u m r (Present stands) v = ⊤
-IsCause z u m r Absent v = ⊤
-IsCause z u m r Busy v = ⊤
-IsCause z u m r (Crowded b) v = ⊤
+abbrev pub IsCause : Sizes → View → Job → Position → Case → Room → Outcome → View → Type 0
+IsCause z u j t c r New v = IsCaseOf j c × GoesBy z u t c r v
+IsCause z u j t c r (Gone value) v = IsCaseOf j c × GoesBy z u t c r v
+IsCause z u j t c r (Full pool) v = IsFull z u t r pool v
+IsCause z u j t c r (Exhausted x) v = IsExhausted z u j t c r x v
+IsCause z u j t c r Overlaps v = IsOverlap z u t r v
+IsCause z u j t c r (Present stands) v = ⊤
+IsCause z u j t c r Absent v = ⊤
+IsCause z u j t c r Busy v = ⊤
+IsCause z u j t c r (Crowded b) v = ⊤
 
 -- it ended so, with what its outcome came of: as a machine of this job has it that was run to its end, with these turns and restarts
 pub record HasGround (z : Sizes) (u : View) (j : Job) (ps : List Place) (turns restarts : ℕ) (o : Outcome) (r : Room) (qs : List Place)
@@ -311,7 +314,9 @@ pub record HasGround (z : Sizes) (u : View) (j : Job) (ps : List Place) (turns r
   pub restarts_are : machine.restarts ≡ restarts
   pub outcome_is : machine.outcome ≡ o
   pub done : IsDone z u ps o machine r qs v
-  pub cause : IsCause z u machine.attempt r o v
+  pub position : Position
+  pub case : Case
+  pub cause : IsCause z u machine.attempt.job position case r o v
 
 -- so many steps were counted as there were turns, and in a table within its limits these are few beside the failures
 pub record UsedTurns (z : Sizes) (u : View) (turns : ℕ) (v : View) : Type 0 where

@@ -1,5 +1,7 @@
 use Rattle.std.proofs.Common.{◌∙◌, sym, arith}
 use Rattle.art_change.proofs.Frames.{begun_so, begun_tries}
+use Rattle.art_attempt.proofs.Ends.{anywhere}
+use Rattle.art_attempt.specs.declared.cases.Case.TheVariants.{NewLeaf}
 use Rattle.art_change.proofs.writes.Write.begin.Goals as goal
 
 pub returns-then-self-eq0-clause-left : goal.returns-then-self-eq0-clause-left
@@ -8,7 +10,7 @@ returns-then-self-eq0-clause-left c first qs = let few = c.begin_exit.ensures.le
 pub returns-then-self-eq0-clause-fits : goal.returns-then-self-eq0-clause-fits
 returns-then-self-eq0-clause-fits c first z u opened v ps qs room frame begun has counted =
     let m = c.args.self.now in
-    c.begin_exit.ensures.fits z u opened v v ps qs room frame begun (record { job = first.job; fits = (begun_so z opened m.restarts v begun c.args.room.now has, c.if-self-eq0.true) }) counted
+    c.begin_exit.ensures.fits z u opened v v ps qs room frame begun (record { job = first.job; position = anywhere; case = NewLeaf; fits = (begun_so z opened m.restarts v begun c.args.room.now has, c.if-self-eq0.true) }) counted
 
 pub returns-clause-left : goal.returns-clause-left
 returns-clause-left c first qs =

@@ -21,6 +21,7 @@ pub returns-in-Ended-clause-grounds : goal.returns-in-Ended-clause-grounds
 returns-in-Ended-clause-grounds c z u v ps qs r fits =
     let m = c.args.self.now in
     let done = subst (λ (s : StageOf). StageFits z u ps s m r qs v) c.in-Ended.is fits.stage in
+    let k = cause_so z u ps m r qs v m.outcome refl done in
     record {
       machine = m;
       job_is = refl;
@@ -28,7 +29,9 @@ returns-in-Ended-clause-grounds c z u v ps qs r fits =
       restarts_are = refl;
       outcome_is = refl;
       done = done;
-      cause = cause_so z u ps m r qs v m.outcome refl done;
+      position = k.position;
+      case = k.case;
+      cause = k.cause;
     }
 
 pub returns-in-Ended-clause-ready : goal.returns-in-Ended-clause-ready

@@ -1,4 +1,6 @@
 use Rattle.std.proofs.Common.{refl, subst, arith}
+use Rattle.art_attempt.proofs.Ends.{anywhere}
+use Rattle.art_attempt.specs.declared.cases.Case.TheVariants.{NewLeaf}
 use Rattle.art_change.proofs.writes.Write.stop.Goals as goal
 use Rattle.art_change.specs.Writes.{StageFits}
 use Rattle.art_change.specs.declared.writes.Stage.{Stage as StageOf}
@@ -13,4 +15,4 @@ returns-clause-fits c z u v ps qs fits =
     let first = t.begun.base.later.steps in
     let last = so.still.later.steps in
     let used = c.saturating_sub-self.ensures in
-    c.begin_exit.ensures.fits z u t.opened t.began v ps qs fits.room t.frame t.begun (record { job = t.job; fits = (so, refl) }) (omega (arith, counted, first, last, used))
+    c.begin_exit.ensures.fits z u t.opened t.began v ps qs fits.room t.frame t.begun (record { job = t.job; position = anywhere; case = NewLeaf; fits = (so, refl) }) (omega (arith, counted, first, last, used))

@@ -1,4 +1,6 @@
 use Rattle.std.proofs.Common.{◌≡◌, ◌≤◌, ◌∙◌, true, false, sym, subst, arith}
+use Rattle.art_attempt.proofs.Ends.{anywhere}
+use Rattle.art_attempt.specs.declared.cases.Case.TheVariants.{NewLeaf}
 use Rattle.art_change.proofs.writes.Write.turn.Goals as goal
 use Rattle.art_change.specs.Writes.{StageFits, left_at}
 use Rattle.art_change.specs.declared.writes.Stage.{Stage as StageOf}
@@ -10,7 +12,7 @@ returns-then-is_free-clause-left c qs = let few = c.begin_exit.ensures.left qs i
 pub returns-then-is_free-clause-fits : goal.returns-then-is_free-clause-fits
 returns-then-is_free-clause-fits c z u v ps qs room t =
     let so = c.is_free.ensures.free c.if-is_free.true t.going z t.began v c.args.room.now t.fits in
-    c.begin_exit.ensures.fits z u t.opened t.began v ps qs room t.frame t.begun (record { job = t.job; fits = (so, c.if-self-eq0.true) }) t.counted
+    c.begin_exit.ensures.fits z u t.opened t.began v ps qs room t.frame t.begun (record { job = t.job; position = anywhere; case = NewLeaf; fits = (so, c.if-self-eq0.true) }) t.counted
 
 pub returns-else-is_free-clause-left : goal.returns-else-is_free-clause-left
 returns-else-is_free-clause-left c qs =
