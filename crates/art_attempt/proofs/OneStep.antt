@@ -1,5 +1,5 @@
 -- A step of a part is one step.
-use Rattle.std.proofs.Common.{◌≡◌, ℕ, Option, Some}
+use Rattle.std.proofs.Common.{◌≡◌, Option, Some}
 use Rattle.art_attempt.proofs.Asked.{naming_asks_look, reads_look, supply_asks_supply, validate_asks_look}
 use Rattle.art_attempt.proofs.Given.{look_once, supply_once}
 use Rattle.art_attempt.specs.Attempts.{part_asks}

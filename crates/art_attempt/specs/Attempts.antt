@@ -128,6 +128,11 @@ asks_at (stage.Ended e) m r = None
 abbrev pub asks : Attempt → Room → Option Action
 asks m r = asks_at m.stage m r
 
+-- where it stands at a place already, that is this one
+abbrev pub StandsAt : Position → Stage → Type 0
+StandsAt t (stage.Placed s q) = s ≡ t
+StandsAt t s = ⊤
+
 abbrev pub ending_at : Stage → Option Ending
 ending_at (stage.Ended e) = Some e
 ending_at s = None

@@ -1,7 +1,7 @@
 //! How an attempt tells what goes with a leaf, by the words of the node that names it.
 ghost use Rattle.std.specs.Prelude.{◌≡◌, ◌≢◌, ℕ, ◌+◌, ◌<◌, ◌≤◌, None, Some, true, false};
 ghost use Rattle.art_attempt.specs.Attempts.{EndsWithin, Fits, IsNaming, IsReadingOn, IsRoom, IsSameTry, deed_at, ended_at, is_free};
-ghost use Rattle.art_attempt.specs.Attempts.{naming_asks, reading_asks};
+ghost use Rattle.art_attempt.specs.Attempts.{StandsAt, naming_asks, reading_asks};
 ghost use Rattle.art_attempt.specs.Cases.{HasLeaf, LeavesOther};
 ghost use Rattle.art_attempt.specs.declared.attempts.Ending.TheVariants.{Restart as anew, Overlaps as overlaps};
 ghost use Rattle.art_attempt.specs.declared.attempts.Job.TheVariants as jobs;
@@ -47,7 +47,8 @@ impl Attempt {
 
     /// The leaf is there, and its place was checked: what goes with it says what comes next.
     pub(crate) fn choose(&mut self, room: &mut Room, position: &Position)
-        requires { (z : Sizes) × (u : View) × (v : View) × IsRoom z room.old × EndsWithin z u 1201 room.old v ×
+        requires at { StandsAt position.now self.old.stage }
+        requires leaf { (z : Sizes) × (u : View) × (v : View) × IsRoom z room.old × EndsWithin z u 1201 room.old v ×
             HasLeaf position.now room.old }
         ensures kept { IsSameTry self.old self.new room.old room.new }
         ensures not_anew { ended_at self.new ≢ Some anew }
@@ -72,6 +73,7 @@ impl Attempt {
         rereading: Rereading,
         answer: Answer,
     )
+        requires at { StandsAt position.now self.old.stage }
         requires more { rereading.place < size_of position.now.stamp.cell }
         requires told { (z : Sizes) × (u : View) × (v : View) × (w : View) × (asked : ActionOf) × IsRoom z room.old ×
             IsReadingOn z u self.old.job position.now rereading room.old v × (reading_asks position.now rereading ≡ Some asked) ×
@@ -129,7 +131,8 @@ impl Attempt {
 
     /// The node is read on, or all its words are known: it goes, and gives way to its other child.
     fn read_on(&mut self, room: &Room, position: &Position, rereading: Rereading)
-        requires { HasLeaf position.now room.now }
+        requires at { StandsAt position.now self.old.stage }
+        requires leaf { HasLeaf position.now room.now }
         ensures job { self.new.job ≡ self.old.job }
         ensures not_anew { ended_at self.new ≢ Some anew }
         ensures not_overlaps { ended_at self.new ≢ Some overlaps }
@@ -145,7 +148,8 @@ impl Attempt {
 
     /// The node gives way to its other child.
     fn merge(&mut self, room: &Room, position: &Position)
-        requires { HasLeaf position.now room.now }
+        requires at { StandsAt position.now self.old.stage }
+        requires leaf { HasLeaf position.now room.now }
         ensures job { self.new.job ≡ self.old.job }
         ensures not_anew { ended_at self.new ≢ Some anew }
         ensures not_overlaps { ended_at self.new ≢ Some overlaps }
@@ -166,6 +170,7 @@ impl Attempt {
 
     /// That node is stamped, and the node that names it is checked.
     fn name(&mut self, position: &Position, byte: u8, node: Node)
+        requires at { StandsAt position.now self.old.stage }
         ensures job { self.new.job ≡ self.old.job }
         ensures not_anew { ended_at self.new ≢ Some anew }
         ensures not_overlaps { ended_at self.new ≢ Some overlaps }
@@ -200,7 +205,8 @@ impl Attempt {
         naming: Naming,
         answer: Answer,
     )
-        requires { (z : Sizes) × (u : View) × (v : View) × (w : View) × (asked : ActionOf) × IsRoom z room.old ×
+        requires at { StandsAt position.now self.old.stage }
+        requires told { (z : Sizes) × (u : View) × (v : View) × (w : View) × (asked : ActionOf) × IsRoom z room.old ×
             IsNaming z u self.old.job position.now byte node naming room.old v × (naming_asks position.now naming ≡ Some asked) ×
             ActionAnswers z (telling (deed_at self.old room.old)) asked answer v w }
         ensures kept { IsSameTry self.old self.new room.old room.new }
@@ -218,6 +224,7 @@ impl Attempt {
 
     /// It goes on; or the node below is known by its stamp, and the cells are validated; or a cell was changed.
     fn name_on(&mut self, room: &Room, position: &Position, byte: u8, node: Node, naming: Naming)
+        requires at { StandsAt position.now self.old.stage }
         ensures job { self.new.job ≡ self.old.job }
         ensures anew { ended_at self.new ≡ Some anew → named_at naming ≡ Some changed_name }
         ensures not_overlaps { ended_at self.new ≢ Some overlaps }
@@ -233,6 +240,7 @@ impl Attempt {
 
     /// The naming has ended so: the cells are validated, with the node below, or a cell was changed.
     fn named(&mut self, room: &Room, position: &Position, byte: u8, node: Node, named: Named)
+        requires at { StandsAt position.now self.old.stage }
         ensures job { self.new.job ≡ self.old.job }
         ensures anew { ended_at self.new ≡ Some anew → named ≡ changed_name }
         ensures not_overlaps { ended_at self.new ≢ Some overlaps }

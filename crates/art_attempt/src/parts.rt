@@ -1,6 +1,6 @@
 //! What an attempt does where its key stands, part by part, before a change is made.
 ghost use Rattle.std.specs.Prelude.{◌≡◌, ◌≢◌, ℕ, ◌+◌, ◌<◌, ◌≤◌, length, None, Some, true, false};
-ghost use Rattle.art_attempt.specs.Attempts.{Fits, IsRoom, IsSameTry, PartFits, deed_at, ended_at, is_free, part_asks};
+ghost use Rattle.art_attempt.specs.Attempts.{Fits, IsRoom, IsSameTry, PartFits, StandsAt, deed_at, ended_at, is_free, part_asks};
 ghost use Rattle.art_attempt.specs.declared.attempts.Ending.TheVariants.{Restart as anew, Overlaps as overlaps};
 ghost use Rattle.art_attempt.specs.declared.attempts.Stage.TheVariants as stages;
 ghost use Rattle.art_machine.specs.Acting.{goes_on};
@@ -46,7 +46,8 @@ impl Attempt {
         part: Part,
         answer: Answer,
     )
-        requires { (z : Sizes) × (u : View) × (v : View) × (w : View) × (asked : ActionOf) × IsRoom z room.old ×
+        requires at { StandsAt position.now self.old.stage }
+        requires told { (z : Sizes) × (u : View) × (v : View) × (w : View) × (asked : ActionOf) × IsRoom z room.old ×
             PartFits z u self.old.job position.now part room.old v × (part_asks part position.now room.old ≡ Some asked) ×
             Answers z (deed_at self.old room.old) room.old.change asked answer v w }
         ensures kept { IsSameTry self.old self.new room.old room.new }
@@ -105,14 +106,20 @@ impl Attempt {
         }
     }
 
-    /// It goes on where the key stands, with this part.
+    /// It goes on where the key stands, with this part: a place where it stands already is not moved again.
     #[inline(always)]
     pub(crate) fn go_on(&mut self, position: &Position, part: Part)
+        requires at { StandsAt position.now self.old.stage }
         ensures { self.new ≡ record self.old { stage = stages.Placed position.now part } }
     {
-        self.stage = Stage::Placed {
-            position: *position,
-            part,
-        };
+        match &mut self.stage {
+            Stage::Placed { part: here, .. } => *here = part,
+            _ => {
+                self.stage = Stage::Placed {
+                    position: *position,
+                    part,
+                };
+            }
+        }
     }
 }

@@ -1,7 +1,7 @@
 //! How an attempt finds the place of its key, and what the check of that place tells.
 ghost use Rattle.std.specs.Prelude.{◌≡◌, ◌≢◌, ℕ, ◌+◌, ◌<◌, ◌≤◌, None, Some, true, false};
 ghost use Rattle.art_attempt.specs.Attempts.{Fits, IsFinding, IsOverlapBy, IsRoom, IsSameTry, WasPlaced, check_of, deed_by, ended_at, entered_by};
-ghost use Rattle.art_attempt.specs.Attempts.{finding_asks, is_free, settles};
+ghost use Rattle.art_attempt.specs.Attempts.{StandsAt, finding_asks, is_free, settles};
 ghost use Rattle.art_attempt.specs.declared.attempts.Ending.TheVariants.{Restart as anew, Overlaps as overlaps};
 ghost use Rattle.art_attempt.specs.declared.attempts.Job.TheVariants as jobs;
 ghost use Rattle.art_attempt.specs.declared.attempts.Stage.TheVariants as stages;
@@ -145,7 +145,8 @@ impl Attempt {
 
     /// The place of the key was checked.
     fn settled(&mut self, room: &mut Room, position: &Position, answer: Answer)
-        requires { (z : Sizes) × (u : View) × (v : View) × (w : View) × (f : FindingOf) × IsRoom z room.old ×
+        requires at { StandsAt position.now self.old.stage }
+        requires told { (z : Sizes) × (u : View) × (v : View) × (w : View) × (f : FindingOf) × IsRoom z room.old ×
             IsFinding z u self.old.job f room.old v × (position_at f ≡ Some position.now) ×
             ActionAnswers z (telling (deed_by self.old.job f room.old)) (check_of self.old.job position.now) answer v w }
         ensures kept { IsSameTry self.old self.new room.old room.new }
@@ -170,6 +171,7 @@ impl Attempt {
 
     /// The place of a row that comes was checked: the key is there, or begins another, or a leaf may come.
     fn enter(&mut self, room: &mut Room, position: &Position)
+        requires at { StandsAt position.now self.old.stage }
         requires job { self.old.job ≡ jobs.Insert }
         requires placed { (z : Sizes) × (u : View) × (v : View) × (w : View) × IsRoom z room.old ×
             WasPlaced z u self.old.job position.now room.old v w }
@@ -188,6 +190,7 @@ impl Attempt {
 
     /// The place of a row that goes was checked: a leaf has its key, or none has.
     fn leave(&mut self, room: &mut Room, position: &Position)
+        requires at { StandsAt position.now self.old.stage }
         requires job { self.old.job ≡ jobs.Remove }
         requires placed { (z : Sizes) × (u : View) × (v : View) × (w : View) × IsRoom z room.old ×
             WasPlaced z u self.old.job position.now room.old v w }

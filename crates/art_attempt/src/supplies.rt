@@ -1,6 +1,6 @@
 //! How an attempt brings numbers into the hand, and validates the cells that it writes.
 ghost use Rattle.std.specs.Prelude.{◌≡◌, ◌≢◌, ℕ, ◌+◌, ◌<◌, ◌≤◌, length, None, Some, true, false};
-ghost use Rattle.art_attempt.specs.Attempts.{EndsWithin, Fits, HasSupplies, IsKnown, IsRoom, IsSameTry, IsValidating, WantsNumbers, deed_at};
+ghost use Rattle.art_attempt.specs.Attempts.{EndsWithin, Fits, HasSupplies, IsKnown, IsRoom, IsSameTry, IsValidating, StandsAt, WantsNumbers, deed_at};
 ghost use Rattle.art_attempt.specs.Attempts.{ended_at, is_free, supply_asks, validate_asks};
 ghost use Rattle.art_attempt.specs.Cases.{IsCaseOf, cells_of};
 ghost use Rattle.art_attempt.specs.declared.attempts.Ending.TheVariants.{Restart as anew, Overlaps as overlaps};
@@ -48,7 +48,8 @@ impl Attempt {
 
     /// In this case numbers are wanted: they are brought into the hand.
     pub(crate) fn supply(&mut self, room: &mut Room, position: &Position, case: Case)
-        requires { (z : Sizes) × (u : View) × (v : View) × IsRoom z room.old × EndsWithin z u 1203 room.old v }
+        requires at { StandsAt position.now self.old.stage }
+        requires within { (z : Sizes) × (u : View) × (v : View) × IsRoom z room.old × EndsWithin z u 1203 room.old v }
         ensures kept { IsSameTry self.old self.new room.old room.new }
         ensures not_anew { ended_at self.new ≢ Some anew }
         ensures not_overlaps { ended_at self.new ≢ Some overlaps }
@@ -72,7 +73,8 @@ impl Attempt {
         reserve: Reserve,
         answer: Answer,
     )
-        requires { (z : Sizes) × (u : View) × (v : View) × (w : View) × (asked : ActionOf) × IsRoom z room.old ×
+        requires at { StandsAt position.now self.old.stage }
+        requires told { (z : Sizes) × (u : View) × (v : View) × (w : View) × (asked : ActionOf) × IsRoom z room.old ×
             HasSupplies z u self.old.job position.now case reserve room.old v × (supply_asks reserve room.old ≡ Some asked) ×
             ActionAnswers z None asked answer v w }
         ensures kept { IsSameTry self.old self.new room.old room.new }
@@ -121,6 +123,7 @@ impl Attempt {
     /// It goes on; or all is in hand, and the cells are validated; or a pool gave no number.
     #[inline(always)]
     fn supply_on(&mut self, room: &Room, position: &Position, case: Case, reserve: Reserve)
+        requires at { StandsAt position.now self.old.stage }
         ensures job { self.new.job ≡ self.old.job }
         ensures not_anew { ended_at self.new ≢ Some anew }
         ensures not_overlaps { ended_at self.new ≢ Some overlaps }
@@ -137,6 +140,7 @@ impl Attempt {
 
     /// No number of the pool was found: a leaf that was to come is refused, and one that goes does so alone.
     fn lack(&mut self, room: &Room, position: &Position, pool: Pool)
+        requires at { StandsAt position.now self.old.stage }
         ensures job { self.new.job ≡ self.old.job }
         ensures not_anew { ended_at self.new ≢ Some anew }
         ensures not_overlaps { ended_at self.new ≢ Some overlaps }
@@ -152,6 +156,7 @@ impl Attempt {
 
     /// What is changed is known: the cells that are written are validated.
     pub(crate) fn validate(&mut self, room: &Room, position: &Position, case: Case)
+        requires at { StandsAt position.now self.old.stage }
         ensures job { self.new.job ≡ self.old.job }
         ensures not_anew { ended_at self.new ≢ Some anew }
         ensures not_overlaps { ended_at self.new ≢ Some overlaps }
@@ -188,7 +193,8 @@ impl Attempt {
         validate: Validate,
         answer: Answer,
     )
-        requires { (z : Sizes) × (u : View) × (v : View) × (w : View) × (asked : ActionOf) × IsRoom z room.old ×
+        requires at { StandsAt position.now self.old.stage }
+        requires told { (z : Sizes) × (u : View) × (v : View) × (w : View) × (asked : ActionOf) × IsRoom z room.old ×
             IsValidating z u self.old.job position.now case validate room.old v ×
             (validate_asks position.now case validate ≡ Some asked) ×
             ActionAnswers z (telling (deed_at self.old room.old)) asked answer v w }
@@ -222,6 +228,7 @@ impl Attempt {
         validate: Validate,
         left: &mut u32,
     )
+        requires at { StandsAt position.now self.old.stage }
         requires turn { 0 < left.old }
         requires fits { (u : View) × IsRoom (S.sizes steps.old) room.old ×
             IsValidating (S.sizes steps.old) u self.old.job position.now case validate room.old (S.view steps.old) }
@@ -248,7 +255,8 @@ impl Attempt {
     /// It goes on; or all that is written was seen, and the change is planned; or a cell was changed.
     #[inline(always)]
     fn validate_on(&mut self, room: &mut Room, position: &Position, case: Case, validate: Validate)
-        requires { (z : Sizes) × (u : View) × (v : View) × IsRoom z room.old ×
+        requires at { StandsAt position.now self.old.stage }
+        requires validating { (z : Sizes) × (u : View) × (v : View) × IsRoom z room.old ×
             IsValidating z u self.old.job position.now case validate room.old v }
         ensures kept { IsSameTry self.old self.new room.old room.new }
         ensures anew { ended_at self.new ≡ Some anew → validated_at validate ≡ Some changed_cell }

@@ -8,8 +8,8 @@ use Rattle.art_attempt.specs.declared.attempts.Job.{Job}
 use Rattle.art_attempt.specs.declared.cases.Case.TheVariants.{DropLeaf, Shrink}
 use Rattle.art_attempt.proofs.Validates.{here_begins}
 
-pub read_on-requires : goal.read_on-requires
-read_on-requires c = c.requires.5
+pub read_on-requires-clause-leaf : goal.read_on-requires-clause-leaf
+read_on-requires-clause-leaf c = c.requires.leaf.5
 
 pub returns-in-Merges-clause-fits : goal.returns-in-Merges-clause-fits
 returns-in-Merges-clause-fits c z u v room so job leaf standing =
@@ -30,9 +30,9 @@ returns-in-Merges-clause-fits c z u v room so job leaf standing =
       fits = here_begins z r.row.key.items t r.read_set v v c.new.result c.node.result.now p c.node.ensures (c.new.ensures.fits z v t.stamp);
     })
 
-pub supply-requires : goal.supply-requires
-supply-requires c =
-    let q = c.requires in
+pub supply-requires-clause-within : goal.supply-requires-clause-within
+supply-requires-clause-within c =
+    let q = c.requires.leaf in
     (q.0, q.1, q.2, q.3, within_more q.0 q.1 1201 1203 c.args.room.now q.2 (omega arith) q.4)
 
 pub returns-in-Shrinks-clause-fits : goal.returns-in-Shrinks-clause-fits

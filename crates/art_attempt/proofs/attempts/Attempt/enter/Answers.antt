@@ -7,8 +7,8 @@ use Rattle.art_attempt.specs.Cases.{IsCaseOf}
 use Rattle.art_attempt.specs.declared.attempts.Job.{Job}
 use Rattle.art_attempt.specs.declared.cases.Case.TheVariants.{NewLeaf}
 
-pub supply-requires : goal.supply-requires
-supply-requires c =
+pub supply-requires-clause-within : goal.supply-requires-clause-within
+supply-requires-clause-within c =
     let m = c.args.self.now in
     let t = c.args.position.now in
     let r = c.args.room.now in

@@ -1,13 +1,13 @@
 use Rattle.std.proofs.Common.{◌∙◌, sym, subst}
 use Rattle.art_attempt.proofs.attempts.Attempt.find_told.Goals as goal
 use Rattle.art_attempt.proofs.Finds.{at_place}
-use Rattle.art_attempt.specs.Attempts.{deed_by}
+use Rattle.art_attempt.specs.Attempts.{StandsAt, deed_by}
 use Rattle.art_machine.specs.Acting.{Answers, telling}
 use Rattle.art_find.specs.Descents.{asks}
 use Rattle.art_machine.specs.declared.actions.Action.{Action}
 
-pub settled-requires : goal.settled-requires
-settled-requires c =
+pub settled-requires-clause-told : goal.settled-requires-clause-told
+settled-requires-clause-told c =
     let m = c.args.self.now in
     let f = c.args.finding in
     let t = c.in-Some.position in
@@ -32,3 +32,6 @@ returns-in-Some-clause-overlaps c is =
 
 pub returns-in-None-clause-overlaps : goal.returns-in-None-clause-overlaps
 returns-in-None-clause-overlaps c is = absurd (c.find_on.ensures.not_overlaps is)
+
+pub settled-requires-clause-at : goal.settled-requires-clause-at
+settled-requires-clause-at c = subst (StandsAt c.in-Some.position) (sym c.requires.stage) tt

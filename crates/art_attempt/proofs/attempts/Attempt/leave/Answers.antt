@@ -11,8 +11,8 @@ use Rattle.art_find.specs.declared.verdicts.Verdict.{Verdict}
 pub found-requires : goal.found-requires
 found-requires c = c.requires.placed.4.key.short
 
-pub choose-requires : goal.choose-requires
-choose-requires c =
+pub choose-requires-clause-leaf : goal.choose-requires-clause-leaf
+choose-requires-clause-leaf c =
     let m = c.args.self.now in
     let t = c.args.position.now in
     let r = c.args.room.now in

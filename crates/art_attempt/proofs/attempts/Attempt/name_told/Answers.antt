@@ -17,7 +17,7 @@ returns-clause-fits c z u v w asked room h is row =
 
 pub returns-clause-anew : goal.returns-clause-anew
 returns-clause-anew c anew =
-    let q = c.requires in
+    let q = c.requires.told in
     let m = c.args.self.now in
     let t = c.args.position.now in
     let r = c.args.room.now in

@@ -1,8 +1,8 @@
 -- The steps are those of the part.
-use Rattle.std.proofs.Common.{◌∙◌, ap, sym, arith}
+use Rattle.std.proofs.Common.{◌∙◌, refl, ap, sym, subst}
 use Rattle.art_attempt.proofs.Spending.{spends_none}
 use Rattle.art_attempt.proofs.Stages.{at_part}
-use Rattle.art_attempt.specs.Attempts.{ending_at, free_at}
+use Rattle.art_attempt.specs.Attempts.{StandsAt, ending_at, free_at}
 use Rattle.art_attempt.specs.declared.attempts.Part.{Part as PartOf}
 use Rattle.art_attempt.specs.declared.attempts.Part.TheVariants as parts
 use Rattle.art_attempt.specs.declared.attempts.Stage.TheVariants as stages
@@ -42,3 +42,6 @@ returns-in-Naming-clause-not_overlaps g c is = let none = sym (ap ending_at c.re
 
 pub returns-in-Naming-clause-turns : goal.returns-in-Naming-clause-turns
 returns-in-Naming-clause-turns g c = spends_none (g.S.Steps.view c.args.steps.now) c.args.left.now c.requires.turn
+
+pub validate_all-requires-clause-at : goal.validate_all-requires-clause-at
+validate_all-requires-clause-at g c = subst (StandsAt c.args.position.now) (sym c.requires.stage) refl

@@ -6,12 +6,12 @@ use Rattle.art_attempt.specs.Cases.{cells_of}
 use Rattle.art_attempt.specs.Attempts.{PartFits, deed_at, part_asks}
 use Rattle.art_attempt.specs.declared.attempts.Part.{Part as PartOf}
 
-pub supply_told-requires : goal.supply_told-requires
-supply_told-requires c =
+pub supply_told-requires-clause-told : goal.supply_told-requires-clause-told
+supply_told-requires-clause-told c =
     let m = c.args.self.now in
     let r = c.args.room.now in
     let t = c.args.position.now in
-    let q = c.requires in
+    let q = c.requires.told in
     let d = deed_at m r in
     let here = subst (λ (p : PartOf). PartFits q.0 q.1 m.job t p r q.2) c.in-Reserve.is q.6 in
     let at = sym (ap (λ (p : PartOf). part_asks p t r) c.in-Reserve.is) ∙ q.7 in
@@ -32,7 +32,7 @@ read_told-requires-clause-told c =
     let m = c.args.self.now in
     let r = c.args.room.now in
     let t = c.args.position.now in
-    let q = c.requires in
+    let q = c.requires.told in
     let d = deed_at m r in
     let here = subst (λ (p : PartOf). PartFits q.0 q.1 m.job t p r q.2) c.in-Reading.is q.6 in
     let at = sym (ap (λ (p : PartOf). part_asks p t r) c.in-Reading.is) ∙ q.7 in
@@ -48,12 +48,12 @@ returns-in-Reading-clause-fits c z u v w asked room fits is row =
     let at = sym (ap (λ (p : PartOf). part_asks p t r) c.in-Reading.is) ∙ is in
     c.read_told.ensures.fits z u v w asked room here.0 at (look_row z d r.change asked c.args.answer v w (reads_look t.stamp c.in-Reading.rereading asked at) row)
 
-pub name_told-requires : goal.name_told-requires
-name_told-requires c =
+pub name_told-requires-clause-told : goal.name_told-requires-clause-told
+name_told-requires-clause-told c =
     let m = c.args.self.now in
     let r = c.args.room.now in
     let t = c.args.position.now in
-    let q = c.requires in
+    let q = c.requires.told in
     let d = deed_at m r in
     let here = subst (λ (p : PartOf). PartFits q.0 q.1 m.job t p r q.2) c.in-Naming.is q.6 in
     let at = sym (ap (λ (p : PartOf). part_asks p t r) c.in-Naming.is) ∙ q.7 in
@@ -69,12 +69,12 @@ returns-in-Naming-clause-fits c z u v w asked room fits is row =
     let at = sym (ap (λ (p : PartOf). part_asks p t r) c.in-Naming.is) ∙ is in
     c.name_told.ensures.fits z u v w asked room here.0 at (look_row z d r.change asked c.args.answer v w (naming_asks_look t c.in-Naming.naming asked at) row)
 
-pub validate_told-requires : goal.validate_told-requires
-validate_told-requires c =
+pub validate_told-requires-clause-told : goal.validate_told-requires-clause-told
+validate_told-requires-clause-told c =
     let m = c.args.self.now in
     let r = c.args.room.now in
     let t = c.args.position.now in
-    let q = c.requires in
+    let q = c.requires.told in
     let d = deed_at m r in
     let here = subst (λ (p : PartOf). PartFits q.0 q.1 m.job t p r q.2) c.in-Validate.is q.6 in
     let at = sym (ap (λ (p : PartOf). part_asks p t r) c.in-Validate.is) ∙ q.7 in
@@ -92,5 +92,5 @@ returns-in-Validate-clause-fits c z u v w asked room fits is row =
 
 pub read_told-requires-clause-more : goal.read_told-requires-clause-more
 read_told-requires-clause-more c =
-    let q = c.requires in
+    let q = c.requires.told in
     (subst (λ (p : PartOf). PartFits q.0 q.1 c.args.self.now.job c.args.position.now p c.args.room.now q.2) c.in-Reading.is q.6).1

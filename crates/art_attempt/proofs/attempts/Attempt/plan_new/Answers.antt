@@ -2,15 +2,13 @@ use Rattle.std.proofs.Common.{◌∙◌, refl, ap, sym, subst}
 use Rattle.art_attempt.proofs.CaseCells.{leaf_ready, node_ready, seen_new, validated_locks, validated_so, validated_standing, validated_stood}
 use Rattle.art_attempt.proofs.Chosen.{comes_insert}
 use Rattle.art_attempt.proofs.attempts.Attempt.plan_new.Goals as goal
-use Rattle.art_attempt.specs.Attempts.{GoesBy, IsKnown}
-use Rattle.art_attempt.specs.Cases.{LocksChecked, made_by}
+use Rattle.art_attempt.specs.Cases.{made_by}
 use Rattle.art_attempt.specs.Rooms.{number_for}
 use Rattle.art_attempt.specs.declared.attempts.Job.{Job}
-use Rattle.art_attempt.specs.declared.cases.Case.{Case as CaseOf}
 use Rattle.art_attempt.specs.declared.cases.Case.TheVariants.{NewLeaf}
 use Rattle.art_attempt.specs.declared.rooms.Room.{Room}
 use Rattle.art_machine.specs.declared.actions.Effects.{Effects}
-use Rattle.art_plan.specs.ChooseInsert.Plans.{HasNeeded, LocksOnly}
+use Rattle.art_plan.specs.ChooseInsert.Plans.{HasNeeded}
 use Rattle.art_plan.specs.declared.choose_insert.needs.Needs.{Needs}
 
 pub plan_insert-requires-clause-seen : goal.plan_insert-requires-clause-seen

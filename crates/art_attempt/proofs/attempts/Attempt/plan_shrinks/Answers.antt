@@ -1,12 +1,8 @@
-use Rattle.std.proofs.Common.{ap, refl, sym, subst}
+use Rattle.std.proofs.Common.{refl}
 use Rattle.art_attempt.proofs.CaseCells.{gone_standing, seen_both, smaller_ready, validated_locks, validated_so, validated_stood}
 use Rattle.art_attempt.proofs.Commits.{leaf_may}
 use Rattle.art_attempt.proofs.Chosen.{goes_remove}
 use Rattle.art_attempt.proofs.attempts.Attempt.plan_shrinks.Goals as goal
-use Rattle.art_attempt.specs.Attempts.{IsKnown}
-use Rattle.art_attempt.specs.Cases.{IsCaseOf, cells_of}
-use Rattle.art_attempt.specs.declared.attempts.Job.TheVariants.{Remove}
-use Rattle.art_attempt.specs.declared.cases.Case.{Case as CaseOf}
 use Rattle.art_attempt.specs.declared.cases.Case.TheVariants.{Shrink}
 use Rattle.art_attempt.specs.declared.rooms.Room.{Room}
 

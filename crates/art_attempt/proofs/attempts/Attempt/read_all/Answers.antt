@@ -1,8 +1,8 @@
 -- The steps are those of the rereading.
-use Rattle.std.proofs.Common.{◌∙◌, sym, subst, arith}
+use Rattle.std.proofs.Common.{◌∙◌, refl, sym, subst, arith}
 use Rattle.std.specs.Prelude.{⊤}
 use Rattle.art_attempt.proofs.Stages.{at_part, same_on}
-use Rattle.art_attempt.specs.Attempts.{Fits, deed_at}
+use Rattle.art_attempt.specs.Attempts.{Fits, StandsAt, deed_at}
 use Rattle.art_attempt.specs.declared.attempts.Part.TheVariants as parts
 use Rattle.art_attempt.proofs.Asked.{reads_look}
 use Rattle.art_find.specs.Asking.{MayLook}
@@ -75,3 +75,6 @@ loop-left-preserved g c =
       here = (i.here.0, on i.here.0 i.here.1);
       fits = λ u fits. on u (i.fits u fits);
     }
+
+pub read_told-requires-clause-at : goal.read_told-requires-clause-at
+read_told-requires-clause-at g c = subst (StandsAt c.in-Placed.position) (sym c.in-Placed.is) refl

@@ -3,8 +3,8 @@ use Rattle.art_attempt.proofs.CaseCells.{reading_so}
 use Rattle.art_attempt.proofs.attempts.Attempt.read_on.Goals as goal
 use Rattle.art_find.specs.ReadSets.{node_of}
 
-pub merge-requires : goal.merge-requires
-merge-requires c = c.requires
+pub merge-requires-clause-leaf : goal.merge-requires-clause-leaf
+merge-requires-clause-leaf c = c.requires.leaf
 
 pub returns-in-None-clause-fits : goal.returns-in-None-clause-fits
 returns-in-None-clause-fits c z u v room h =

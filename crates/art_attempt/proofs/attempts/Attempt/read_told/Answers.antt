@@ -6,8 +6,8 @@ use Rattle.art_attempt.specs.Cases.{IsCaseOf}
 use Rattle.art_attempt.specs.declared.attempts.Job.{Job}
 use Rattle.art_attempt.specs.declared.cases.Case.TheVariants.{DropLeaf, Shrink}
 
-pub supply-requires : goal.supply-requires
-supply-requires c =
+pub supply-requires-clause-within : goal.supply-requires-clause-within
+supply-requires-clause-within c =
     let p = c.requires.told in
     let m = c.args.self.now in
     let t = c.args.position.now in
@@ -64,5 +64,5 @@ returns-in-Merges-clause-fits c z u v w asked room h is row =
       fits = on.fits;
     })
 
-pub read_on-requires : goal.read_on-requires
-read_on-requires c = let h = c.requires.told.6 in record { found = h.leaf.found; key = h.leaf.key }
+pub read_on-requires-clause-leaf : goal.read_on-requires-clause-leaf
+read_on-requires-clause-leaf c = let h = c.requires.told.6 in record { found = h.leaf.found; key = h.leaf.key }

@@ -2,7 +2,7 @@
 use Rattle.std.proofs.Common.{◌∙◌, Some, sym, ap, subst, arith}
 use Rattle.art_attempt.proofs.Finds.{asks_check, check_look, finding_allowed, may_look}
 use Rattle.art_attempt.proofs.Stages.{is_finding}
-use Rattle.art_attempt.specs.Attempts.{deed_by, settles}
+use Rattle.art_attempt.specs.Attempts.{StandsAt, deed_by, settles}
 use Rattle.art_machine.proofs.Counting.{look_counts}
 use Rattle.art_machine.specs.Acting.{Answers, IsLook, telling}
 use Rattle.art_machine.specs.declared.actions.Action.{Action}
@@ -24,8 +24,8 @@ look-requires g c =
           (finding_allowed z q.0 m.job f r v seeks c.check_of.result (asks_check m.job f t at ∙ ap Some (sym c.check_of.ensures)));
     }
 
-pub settled-requires : goal.settled-requires
-settled-requires g c =
+pub settled-requires-clause-told : goal.settled-requires-clause-told
+settled-requires-clause-told g c =
     let z = g.S.Steps.sizes c.args.steps.now in
     let v = g.S.Steps.view c.args.steps.now in
     let w = g.S.Steps.view c.look.new.steps in
@@ -60,3 +60,6 @@ returns-clause-made g c =
     let one = (look_counts z d c.check_of.result c.in-Some-look.answer v w (subst IsLook (sym c.check_of.ensures) (check_look (settles c.args.self.now.job c.in-Some.position.verdict) c.in-Some.position.stamp)) (c.in-Some-look.ensures.row d)).steps in
     let more = c.if-left-le1.false in
     omega (arith, one, more)
+
+pub settled-requires-clause-at : goal.settled-requires-clause-at
+settled-requires-clause-at g c = subst (StandsAt c.in-Some.position) (sym c.in-Finding.is) tt

@@ -43,7 +43,7 @@ returns-then-not-passed-clause-fits c z u v w f room seeks at row =
 
 pub returns-then-not-passed-clause-anew : goal.returns-then-not-passed-clause-anew
 returns-then-not-passed-clause-anew c is =
-    let q = c.requires in
+    let q = c.requires.told in
     let m = c.args.self.now in
     let t = c.args.position.now in
     place_off q.0 (deed_by m.job q.4 c.args.room.now) (settles m.job t.verdict) t.stamp c.args.answer q.2 q.3 q.8 (sym c.passed.ensures ∙ c.if-not-passed.true)
@@ -53,12 +53,12 @@ returns-then-not-passed-clause-overlaps c is = absurd (cc)
 
 pub enter-requires-clause-placed : goal.enter-requires-clause-placed
 enter-requires-clause-placed c =
-    let q = c.requires in
+    let q = c.requires.told in
     (q.0, q.1, q.2, q.3, q.5, placed q.0 q.1 c.args.self.now.job q.4 c.args.room.now c.args.position.now c.args.answer q.2 q.3 q.6 q.7 q.8 (sym c.passed.ensures ∙ c.if-not-passed.false))
 
 pub leave-requires-clause-placed : goal.leave-requires-clause-placed
 leave-requires-clause-placed c =
-    let q = c.requires in
+    let q = c.requires.told in
     (q.0, q.1, q.2, q.3, q.5, placed q.0 q.1 c.args.self.now.job q.4 c.args.room.now c.args.position.now c.args.answer q.2 q.3 q.6 q.7 q.8 (sym c.passed.ensures ∙ c.if-not-passed.false))
 
 pub returns-in-Insert-clause-fits : goal.returns-in-Insert-clause-fits

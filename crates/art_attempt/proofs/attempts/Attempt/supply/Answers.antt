@@ -9,7 +9,7 @@ use Rattle.art_step.specs.declared.views.Sizes.{Sizes as SizesOf}
 
 pub new-reserve-requires : goal.new-reserve-requires
 new-reserve-requires c =
-    let q = c.requires in
+    let q = c.requires.within in
     let r = c.args.room.now in
     let k = r.row.key.items in
     let value = r.row.value in

@@ -1,7 +1,8 @@
 -- The reserve runs, and what it came to is looked at.
-use Rattle.std.proofs.Common.{◌≡◌, ◌∙◌, ℕ, List, sym, ap, subst}
+use Rattle.std.proofs.Common.{◌≡◌, ◌∙◌, ℕ, List, refl, sym, ap, subst}
 use Rattle.art_attempt.proofs.Stages.{has_part}
 use Rattle.art_attempt.proofs.Chosen.{wants_same}
+use Rattle.art_attempt.specs.Attempts.{StandsAt}
 use Rattle.art_attempt.specs.Cases.{demand_of}
 use Rattle.art_attempt.specs.declared.attempts.Part.TheVariants as parts
 use Rattle.art_attempt.specs.Reserve.{Fits as SupplyFits}
@@ -45,3 +46,6 @@ returns-clause-fits g c u fits =
       wants = wants_same z u t r h.early c.args.case c.run.new.stock h.wants;
       fits = subst (λ (x : Demand). SupplyFits z x k r.row.value c.run.new.self c.run.new.stock h.early w) (sym same) then;
     })
+
+pub supply_on-requires : goal.supply_on-requires
+supply_on-requires g c = record { at = subst (StandsAt c.args.position.now) (sym c.requires.stage) refl }

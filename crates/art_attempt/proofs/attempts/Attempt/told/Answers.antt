@@ -1,4 +1,4 @@
-use Rattle.std.proofs.Common.{◌≡◌, ◌∙◌, ◌-◌, ◌<◌, ap, sym, subst}
+use Rattle.std.proofs.Common.{◌∙◌, ◌-◌, ◌<◌, refl, ap, sym, subst}
 use Rattle.art_attempt.proofs.Given.{ask_looks, look_once, look_row, made_row}
 use Rattle.art_attempt.proofs.OneStep.{part_once}
 use Rattle.art_attempt.proofs.Stages.{deed_found}
@@ -7,7 +7,7 @@ use Rattle.art_attempt.specs.Asking.{given}
 use Rattle.art_attempt.proofs.Finds.{finding_allowed}
 use Rattle.art_attempt.proofs.Left.{free_less}
 use Rattle.art_attempt.proofs.attempts.Attempt.told.Goals as goal
-use Rattle.art_attempt.specs.Attempts.{StageFits, asks_at, deed_at, deed_by, free_at, left_at, steps_left}
+use Rattle.art_attempt.specs.Attempts.{StageFits, StandsAt, asks_at, deed_at, deed_by, free_at, left_at, steps_left}
 use Rattle.art_attempt.specs.declared.attempts.Stage.{Stage as StageOf}
 use Rattle.art_machine.specs.Acting.{Answers, steps_in, telling}
 use Rattle.art_step.specs.declared.deeds.Deed.{Deed}
@@ -49,8 +49,8 @@ returns-in-Finding-clause-left c left begun =
     subst (λ (s : StageOf). steps_left (left - steps_in c.args.answer) next < left_at left s) (sym c.in-Finding.is)
     (free_less left (steps_in c.args.answer) next.stage (begun (ap free_at c.in-Finding.is)) one c.find_told.ensures.free)
 
-pub part_told-requires : goal.part_told-requires
-part_told-requires c =
+pub part_told-requires-clause-told : goal.part_told-requires-clause-told
+part_told-requires-clause-told c =
     let m = c.args.self.now in
     let r = c.args.room.now in
     let q = c.requires in
@@ -112,3 +112,6 @@ returns-in-Ended-clause-overlaps c is =
     let r = c.args.room.now in
     let at = sym (ap (λ (s : StageOf). asks_at s m r) c.in-Ended.is) ∙ c.requires.6 in
     absurd (cc)
+
+pub part_told-requires-clause-at : goal.part_told-requires-clause-at
+part_told-requires-clause-at c = subst (StandsAt c.in-Placed.position) (sym c.in-Placed.is) refl

@@ -14,8 +14,8 @@ run-requires-clause-fits g c =
     let h = c.requires.fits.2 in
     (k, h.early, subst (λ (p : Cells). ValidateFits z k c.args.position.now p c.args.validate r.read_set r.lower h.early v) (sym c.cells-cells.ensures) h.fits)
 
-pub validate_on-requires : goal.validate_on-requires
-validate_on-requires g c =
+pub validate_on-requires-clause-validating : goal.validate_on-requires-clause-validating
+validate_on-requires-clause-validating g c =
     let z = g.S.Steps.sizes c.args.steps.now in
     let v = g.S.Steps.view c.args.steps.now in
     let w = g.S.Steps.view c.run.new.steps in

@@ -13,7 +13,7 @@ use Rattle.art_attempt.specs.declared.validate.Validated.TheVariants.{Unchanged,
 
 pub plan-requires : goal.plan-requires
 plan-requires c =
-    let q = c.requires in
+    let q = c.requires.validating in
     let is : ended_at c.args.validate ≡ Some Unchanged = sym c.ended.ensures.at ∙ (c.in-Some-Unchanged.is ∙ ap (λ (e : Validated). Some e) c.in-Some-Unchanged.field-0-is) in
     (q.0, q.1, q.2, q.3, subst (λ (s : Validate). IsValidating q.0 q.1 c.args.self.now.job c.args.position.now c.args.case s c.args.room.now q.2) (validated_as c.args.validate Unchanged is) q.4)
 

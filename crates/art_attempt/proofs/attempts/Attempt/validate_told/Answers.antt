@@ -8,9 +8,9 @@ use Rattle.art_attempt.proofs.Asked.{look_found, validate_asks_look, validate_lo
 use Rattle.art_attempt.specs.Validate.{Fits as ValidateFits, asks}
 use Rattle.art_attempt.specs.declared.validate.Cells.{Cells}
 
-pub validate_on-requires : goal.validate_on-requires
-validate_on-requires c =
-    let q = c.requires in
+pub validate_on-requires-clause-validating : goal.validate_on-requires-clause-validating
+validate_on-requires-clause-validating c =
+    let q = c.requires.told in
     let h = q.6 in
     let m = c.args.self.now in
     let r = c.args.room.now in
@@ -46,7 +46,7 @@ returns-clause-fits c z u v w asked room h is row =
 
 pub returns-clause-anew : goal.returns-clause-anew
 returns-clause-anew c anew =
-    let q = c.requires in
+    let q = c.requires.told in
     let m = c.args.self.now in
     let r = c.args.room.now in
     let h = q.6 in
