@@ -278,7 +278,8 @@ IsKnown z u NewLeaf t r v = Comes t.verdict × HasAll (demand_of z NewLeaf t.ver
 IsKnown z u c t r v = HasLeaf t r × IsChosen z c t r.read_set r.gone r.stock u v
 
 -- the node that takes the place of the one that goes is stamped, and that one is checked; it is its child at this byte
-pub record IsNaming (z : Sizes) (u : View) (j : Job) (t : Position) (byte : ℕ) (n : NodeOf) (s : Naming) (r : Room) (v : View) : Type 0 where
+pub record IsNaming (z : Sizes) (u : View) (j : Job) (t : Position) (byte : ℕ) (n : NodeOf) (s : Naming) (r : Room)
+    (v : View) : Type 0 where
   pub early : View
   pub base : StillTries u early
   pub later : IsLater early v

@@ -64,7 +64,10 @@ pub enum Stage {
 #[derive(Clone, Copy)]
 pub enum Part {
     /// Numbers come into the hand, for this change.
-    Reserve { case: Case, reserve: Reserve },
+    Reserve {
+        case: Case,
+        reserve: Reserve,
+    },
     /// The words of the node that are missing are read, to tell which child it keeps.
     Reading(Rereading),
     /// The node that takes the place of the one that goes is stamped, and that one, whose child it is at this byte, is checked.
@@ -74,7 +77,10 @@ pub enum Part {
         naming: Naming,
     },
     /// What is still to be read for this change is read, and the cells are checked.
-    Validate { case: Case, validate: Validate },
+    Validate {
+        case: Case,
+        validate: Validate,
+    },
 }
 
 /// One attempt of a write, from the anchor down to its end. What is large stands beside it, in the room.

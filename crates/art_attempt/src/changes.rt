@@ -114,7 +114,8 @@ impl Attempt {
         ensures not_overlaps { ended_at self.new ≢ Some overlaps }
         ensures free { is_free self.new ≡ true }
         ensures fits { (z : Sizes) (u v : View) → IsRoom z room.old →
-            IsValidating z u self.old.job position.now (cases.Shrink layout) (validated unchanged) room.old v → Fits z u self.new room.new v }
+            IsValidating z u self.old.job position.now (cases.Shrink layout) (validated unchanged) room.old v →
+            Fits z u self.new room.new v }
     {
         let made = room.number_for(Some(layout));
         let Room {
@@ -137,7 +138,8 @@ impl Attempt {
         ensures not_overlaps { ended_at self.new ≢ Some overlaps }
         ensures free { is_free self.new ≡ true }
         ensures fits { (z : Sizes) (u v : View) → IsRoom z room.old →
-            IsValidating z u self.old.job position.now (cases.MergeLeaf other) (validated unchanged) room.old v → Fits z u self.new room.new v }
+            IsValidating z u self.old.job position.now (cases.MergeLeaf other) (validated unchanged) room.old v →
+            Fits z u self.new room.new v }
     {
         let Room {
             gone,
@@ -159,7 +161,8 @@ impl Attempt {
         ensures not_overlaps { ended_at self.new ≢ Some overlaps }
         ensures free { is_free self.new ≡ true }
         ensures fits { (z : Sizes) (u v : View) → IsRoom z room.old →
-            IsValidating z u self.old.job position.now (cases.MergeNode child) (validated unchanged) room.old v → Fits z u self.new room.new v }
+            IsValidating z u self.old.job position.now (cases.MergeNode child) (validated unchanged) room.old v →
+            Fits z u self.new room.new v }
     {
         let Room {
             gone,

@@ -262,8 +262,5 @@ impl Attempt {
 fn loss(position: &Position, read_set: &ReadSet) -> Loss
     ensures { result ≡ loss_at position.now read_set.now }
 {
-    lost(
-        position.stamp.cell,
-        read_set.node().get(1).unwrap_or(0),
-    )
+    lost(position.stamp.cell, read_set.node().get(1).unwrap_or(0))
 }

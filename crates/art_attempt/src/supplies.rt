@@ -20,7 +20,9 @@ ghost use Rattle.art_machine.specs.declared.actions.Action.{Action as ActionOf};
 ghost use Rattle.art_step.specs.declared.views.Sizes.{Sizes};
 ghost use Rattle.art_step.specs.declared.views.View.{View};
 
-use crate::{Attempt, Case, Ending, Job, Part, Reserve, Reserved, Room, Stage, Validate, Validated};
+use crate::{
+    Attempt, Case, Ending, Job, Part, Reserve, Reserved, Room, Stage, Validate, Validated,
+};
 use art_cell::Pool;
 use art_find::Position;
 use art_machine::{Action, Answer};
@@ -173,7 +175,12 @@ impl Attempt {
 
     /// What comes next where the cells are validated.
     #[inline(always)]
-    pub(crate) fn validate_next(&self, position: &Position, case: Case, validate: Validate) -> Option<Action>
+    pub(crate) fn validate_next(
+        &self,
+        position: &Position,
+        case: Case,
+        validate: Validate,
+    ) -> Option<Action>
         ensures asks { result ≡ validate_asks position.now case validate }
         ensures allowed { (z : Sizes) (u v : View) (r : RoomOf) (d : Deed) →
             IsValidating z u self.now.job position.now case validate r v → IfSome result (IsAllowed z d r.change v) }

@@ -19,6 +19,9 @@ use Rattle.art_call.specs.ArtAttempt.Trying.{StillTries}
 use Rattle.art_call.specs.ArtAttempt.declared.attempts.Attempt.{Attempt}
 use Rattle.art_call.specs.ArtAttempt.declared.attempts.Stage.{Stage as AttemptStage}
 use Rattle.art_call.specs.ArtAttempt.declared.attempts.Stage.TheVariants as attempt
+use Rattle.art_call.specs.ArtAttempt.declared.attempts.Part.{Part}
+use Rattle.art_call.specs.ArtAttempt.declared.attempts.Part.TheVariants as part
+use Rattle.art_call.specs.ArtFind.declared.findings.Position.{Position}
 use Rattle.art_call.specs.ArtAttempt.declared.rooms.Room.{Room}
 use Rattle.art_cell.specs.declared.cells.Cell.{Cell as CellOf}
 use Rattle.art_cell.specs.declared.cells.Cell.TheVariants as cell
@@ -225,20 +228,20 @@ module _ (z : Sizes) (b v : View) (r : Room) (a : Action) (left : ℕ) where
 
   pub attempt_look : (i : Attempt) → length r.row.key.items ≤ 64 → (s : AttemptStage) → attempts.StageFits z b s i r v → (free_at s ≡ true → 0 < left) → attempts.asks_at s i r ≡ Some a → NeedsCurrent a
       → IsEarlyBy (attempts.left_at left s)
-  attempt_look i short attempt.Finding fits some is look = (ap (λ (o : Rest). o.own) (free_so z b i r v short attempt.Finding refl refl fits).still.rest, many_tries left (some refl))
-  attempt_look i short (attempt.Reserve s) fits some is look = absurd (no_look_supply a (supply_asks_supply r.row.key.items r.row.value r.stock s a is) look)
-  attempt_look i short (attempt.Reading q) fits some is look = (ap (λ (o : Rest). o.own) (free_so z b i r v short (attempt.Reading q) refl refl fits).still.rest, many_tries left (some refl))
-  attempt_look i short (attempt.Validate s) fits some is look = (ap (λ (o : Rest). o.own) (free_so z b i r v short (attempt.Validate s) refl refl fits).still.rest, many_tries left (some refl))
-  attempt_look i short (attempt.Naming byte n s) fits some is look = (ap (λ (o : Rest). o.own) (free_so z b i r v short (attempt.Naming byte n s) refl refl fits).still.rest, many_tries left (some refl))
+  attempt_look i short (attempt.Finding f) fits some is look = (ap (λ (o : Rest). o.own) (free_so z b i r v short (attempt.Finding f) refl refl fits).still.rest, many_tries left (some refl))
+  attempt_look i short (attempt.Placed t p) fits some is look = (ap (λ (o : Rest). o.own) (free_so z b i r v short (attempt.Placed t p) refl refl fits).still.rest, many_tries left (some refl))
   attempt_look i short (attempt.Apply s) fits some is look = look_change fits.0.early s fits.0.base fits.0.fits some is look
   attempt_look i short (attempt.Ended e) fits some is look = absurd (cc)
 
+  part_release : (t : Position) (p : Part) → attempts.part_asks p t r ≡ Some a → IsRelease a → ⊥
+  part_release t (part.Reserve c s) is up = no_release_supply a (supply_asks_supply r.row.key.items r.row.value r.stock s a is) up
+  part_release t (part.Reading q) is up = no_release_look a (reads_look t.stamp q a is) up
+  part_release t (part.Validate c s) is up = no_release_look a (validate_asks_look t (cells_of c t.verdict) s a is) up
+  part_release t (part.Naming byte n s) is up = no_release_look a (naming_asks_look t s a is) up
+
   pub attempt_release : (i : Attempt) (s : AttemptStage) → attempts.StageFits z b s i r v → attempts.asks_at s i r ≡ Some a → IsRelease a → v.own ≡ b.own → v.failures ≤ b.failures
       → 575 < attempts.left_at left s → ⊥
-  attempt_release i attempt.Finding fits is up own few many = no_release_look a (ask_looks z (attempts.deed_at i r) v a (finding_allowed z b i r v fits a is)) up
-  attempt_release i (attempt.Reserve s) fits is up own few many = no_release_supply a (supply_asks_supply r.row.key.items r.row.value r.stock s a is) up
-  attempt_release i (attempt.Reading q) fits is up own few many = no_release_look a (reads_look i.position.stamp q a is) up
-  attempt_release i (attempt.Validate s) fits is up own few many = no_release_look a (validate_asks_look i.position (cells_of i.case i.position.verdict) s a is) up
-  attempt_release i (attempt.Naming byte n s) fits is up own few many = no_release_look a (naming_asks_look i.position s a is) up
+  attempt_release i (attempt.Finding f) fits is up own few many = no_release_look a (ask_looks z (attempts.deed_by i.job f r) v a (finding_allowed z b i.job f r v fits a is)) up
+  attempt_release i (attempt.Placed t p) fits is up own few many = part_release t p is up
   attempt_release i (attempt.Apply s) fits is up own few many = release_change fits.0.early s fits.0.base fits.0.fits is up own few many
   attempt_release i (attempt.Ended e) fits is up own few many = absurd (cc)

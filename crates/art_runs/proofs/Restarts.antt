@@ -6,6 +6,10 @@ use Rattle.art_call.specs.ArtAttempt.Attempts as attempts
 use Rattle.art_call.specs.ArtAttempt.declared.attempts.Attempt.{Attempt}
 use Rattle.art_call.specs.ArtAttempt.declared.attempts.Stage.{Stage as AttemptStage}
 use Rattle.art_call.specs.ArtAttempt.declared.attempts.Stage.TheVariants as attempt
+use Rattle.art_call.specs.ArtAttempt.declared.attempts.Job.{Job}
+use Rattle.art_call.specs.ArtAttempt.declared.attempts.Part.{Part}
+use Rattle.art_call.specs.ArtAttempt.declared.attempts.Part.TheVariants as part
+use Rattle.art_call.specs.ArtFind.declared.findings.Position.{Position}
 use Rattle.art_call.specs.ArtAttempt.declared.rooms.Room.{Room}
 use Rattle.art_call.specs.Calls.{GoesOn, Wish, restarts_of}
 use Rattle.art_call.specs.declared.callers.Call.{Call}
@@ -46,12 +50,15 @@ use Rattle.art_step.specs.declared.views.View.{View}
 -- ---- attempts take no failure back
 
 module _ (z : Sizes) (b : View) (r : Room) (v : View) where
+  part_later : (j : Job) (t : Position) (p : Part) → attempts.PartFits z b j t p r v → b.failures ≤ v.failures
+  part_later j t (part.Reserve c s) fits = let first = fits.0.base.later.failures in let more = fits.0.fits.only.failures in omega (arith, first, more)
+  part_later j t (part.Reading q) fits = let first = fits.0.base.later.failures in let more = fits.0.later.failures in omega (arith, first, more)
+  part_later j t (part.Naming byte n s) fits = let first = fits.0.base.later.failures in let more = fits.0.later.failures in omega (arith, first, more)
+  part_later j t (part.Validate c s) fits = let first = fits.0.base.later.failures in let more = fits.0.later.failures in omega (arith, first, more)
+
   attempt_later : (i : Attempt) (s : AttemptStage) → attempts.StageFits z b s i r v → attempts.ending_at s ≡ None → b.failures ≤ v.failures
-  attempt_later i attempt.Finding fits going = let first = fits.base.later.failures in let more = fits.later.failures in omega (arith, first, more)
-  attempt_later i (attempt.Reserve s) fits going = let first = fits.0.base.later.failures in let more = fits.0.fits.only.failures in omega (arith, first, more)
-  attempt_later i (attempt.Reading q) fits going = let first = fits.0.base.later.failures in let more = fits.0.later.failures in omega (arith, first, more)
-  attempt_later i (attempt.Validate s) fits going = let first = fits.0.base.later.failures in let more = fits.0.later.failures in omega (arith, first, more)
-  attempt_later i (attempt.Naming byte n s) fits going = let first = fits.0.base.later.failures in let more = fits.0.later.failures in omega (arith, first, more)
+  attempt_later i (attempt.Finding f) fits going = let first = fits.base.later.failures in let more = fits.later.failures in omega (arith, first, more)
+  attempt_later i (attempt.Placed t p) fits going = part_later i.job t p fits
   attempt_later i (attempt.Apply s) fits going = let first = fits.0.base.later.failures in let more = fits.0.later.failures in omega (arith, first, more)
   attempt_later i (attempt.Ended e) fits going = absurd (cc)
 

@@ -116,11 +116,8 @@ module _ (z : Sizes) (u : View) (r : Room) (v : View) where
 
   -- of an attempt
   attempt_made : (m : Attempt) (s : AttemptStage) → length r.row.key.items ≤ 64 → attempts.StageFits z u s m r v → attempts.ending_at s ≡ None → MadeSo u v (made_by m.job r.row r.gone)
-  attempt_made m attempt.Finding short fits on = inl (still_none (free_so z u m r v short attempt.Finding refl refl fits).still)
-  attempt_made m (attempt.Reserve s) short fits on = inl (still_none (free_so z u m r v short (attempt.Reserve s) refl refl fits).still)
-  attempt_made m (attempt.Reading q) short fits on = inl (still_none (free_so z u m r v short (attempt.Reading q) refl refl fits).still)
-  attempt_made m (attempt.Validate s) short fits on = inl (still_none (free_so z u m r v short (attempt.Validate s) refl refl fits).still)
-  attempt_made m (attempt.Naming byte n s) short fits on = inl (still_none (free_so z u m r v short (attempt.Naming byte n s) refl refl fits).still)
+  attempt_made m (attempt.Finding f) short fits on = inl (still_none (free_so z u m r v short (attempt.Finding f) refl refl fits).still)
+  attempt_made m (attempt.Placed t p) short fits on = inl (still_none (free_so z u m r v short (attempt.Placed t p) refl refl fits).still)
   attempt_made m (attempt.Apply s) short fits on = made_since fits.0.early (made_by m.job r.row r.gone) r.change.effects.deed fits.0.deed fits.0.base (apply_made z r.change fits.0.early v s fits.0.fits fits.1)
   attempt_made m (attempt.Ended e) short fits on = cc
 

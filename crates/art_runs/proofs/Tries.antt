@@ -14,6 +14,8 @@ use Rattle.art_call.specs.ArtAttempt.Trying.{StillTries}
 use Rattle.art_call.specs.ArtAttempt.declared.attempts.Attempt.{Attempt}
 use Rattle.art_call.specs.ArtAttempt.declared.attempts.Stage.{Stage as AttemptStage}
 use Rattle.art_call.specs.ArtAttempt.declared.attempts.Stage.TheVariants as attempt
+use Rattle.art_call.specs.ArtAttempt.declared.attempts.Part.{Part}
+use Rattle.art_call.specs.ArtAttempt.declared.attempts.Part.TheVariants as part
 use Rattle.art_call.specs.ArtAttempt.declared.rooms.Room.{Room}
 use Rattle.art_cell.specs.declared.cells.Cell.{Cell as CellOf}
 use Rattle.art_cell.specs.declared.cells.Cell.TheVariants as cell
@@ -150,23 +152,23 @@ module _ (z : Sizes) (m : Memory) (u b v : View) (had : HasFound m u v) (timely 
   change_founded : (early : View) (n : Apply) → apply.Fits z r.change n early v → apply.asks r.change n ≡ Some a → IsFounded z m v a
   change_founded early n fits is = apply_founded z m d r.change early v a may n fits is
 
+  -- a part has told nothing
+  part_founded : (j : Job) (t : Position) (p : Part) → StillTries b v → attempts.PartFits z b j t p r v → attempts.part_asks p t r ≡ Some a → IsFounded z m v a
+  part_founded j t (part.Reserve c s) still fits is =
+      supplies_founded (demand_of z c t.verdict) r.row.key.items r.row.value fits.0.early s fits.0.base still fits.0.fits.stage is
+  part_founded j t (part.Reading q) still fits is =
+      cell_founded (attempts.reading_asks t q) is (reads_look t.stamp q a is) still.free (λ c asks. absurd (reads_only t.stamp q c asks))
+  part_founded j t (part.Validate w s) still fits is =
+      let o = cells_of w t.verdict in
+      cell_founded (attempts.validate_asks t w s) is (validate_asks_look t o s a is) still.free (λ c asks. absurd (validate_begins_none t o s c asks))
+  part_founded j t (part.Naming byte n s) still fits is =
+      cell_founded (attempts.naming_asks t s) is (naming_asks_look t s a is) still.free (naming_begins z r.row.key.items t n s r.read_set r.lower fits.0.early v fits.0.fits.stage)
+
   pub attempt_founded : (i : Attempt) → length r.row.key.items ≤ 64 → (s : AttemptStage) → attempts.StageFits z b s i r v → attempts.asks_at s i r ≡ Some a → IsFounded z m v a
-  attempt_founded i short attempt.Finding fits is =
-      let so = free_so z b i r v short attempt.Finding refl refl fits in
-      cell_founded (attempts.finding_asks i.job i.finding) is (ask_looks z (attempts.deed_at i r) v a (finding_allowed z b i r v fits a is)) so.still.free (place_led z v i.job (position_at i.finding) (descents.asks i.finding.descent.stage)
-      (descent_founded z r.row.key.items (attempts.settled_of i.job r.row) i.finding.descent.depth i.finding.descent.stage fits.early v so.still.free fits.fits.descent))
-  attempt_founded i short (attempt.Reserve s) fits is =
-      let so = free_so z b i r v short (attempt.Reserve s) refl refl fits in
-      supplies_founded (demand_of z i.case i.position.verdict) r.row.key.items r.row.value fits.0.early s fits.0.base so.still fits.0.fits.stage is
-  attempt_founded i short (attempt.Reading q) fits is =
-      let so = free_so z b i r v short (attempt.Reading q) refl refl fits in
-      cell_founded (attempts.reading_asks i q) is (reads_look i.position.stamp q a is) so.still.free (λ c asks. absurd (reads_only i.position.stamp q c asks))
-  attempt_founded i short (attempt.Validate s) fits is =
-      let so = free_so z b i r v short (attempt.Validate s) refl refl fits in
-      let o = cells_of i.case i.position.verdict in
-      cell_founded (attempts.validate_asks i s) is (validate_asks_look i.position o s a is) so.still.free (λ c asks. absurd (validate_begins_none i.position o s c asks))
-  attempt_founded i short (attempt.Naming byte n s) fits is =
-      let so = free_so z b i r v short (attempt.Naming byte n s) refl refl fits in
-      cell_founded (attempts.naming_asks i s) is (naming_asks_look i.position s a is) so.still.free (naming_begins z r.row.key.items i.position n s r.read_set r.lower fits.0.early v fits.0.fits.stage)
+  attempt_founded i short (attempt.Finding f) fits is =
+      let so = free_so z b i r v short (attempt.Finding f) refl refl fits in
+      cell_founded (attempts.finding_asks i.job f) is (ask_looks z (attempts.deed_by i.job f r) v a (finding_allowed z b i.job f r v fits a is)) so.still.free (place_led z v i.job (position_at f) (descents.asks f.descent.stage)
+      (descent_founded z r.row.key.items (attempts.settled_of i.job r.row) f.descent.depth f.descent.stage fits.early v so.still.free fits.fits.descent))
+  attempt_founded i short (attempt.Placed t p) fits is = part_founded i.job t p (free_so z b i r v short (attempt.Placed t p) refl refl fits).still fits is
   attempt_founded i short (attempt.Apply s) fits is = change_founded fits.0.early s fits.0.fits is
   attempt_founded i short (attempt.Ended e) fits is = absurd (cc)
