@@ -223,7 +223,12 @@ impl Write {
     }
 
     /// Makes the step that it asks for, of its attempt or of its frame.
-    pub(crate) fn make_step<S: EpochSteps>(&self, steps: &mut S, action: Action, room: &Room) -> Answer
+    pub(crate) fn make_step<S: EpochSteps>(
+        &self,
+        steps: &mut S,
+        action: Action,
+        room: &Room,
+    ) -> Answer
         requires admitted { S.admits steps.old room.now.row.key.items }
         requires fits { (u : View) × (ps : List Place) × (qs : List Place) ×
             Fits (S.sizes steps.old) u ps self.now room.now qs (S.view steps.old) × (asks self.now room.now qs ≡ Some action) }
