@@ -1,18 +1,16 @@
 -- What a client sees of a write that has ended.
-use Rattle.std.proofs.Common.{◌≡◌, ℕ, ◌++◌, true, List, [], ◌∷◌, length, Option, Some, None, sym, ap, ap₂, ◌∙◌, subst}
+use Rattle.std.proofs.Common.{◌≡◌, ℕ, ◌++◌, List, [], ◌∷◌, length, Option, Some, None, sym, ap, ap₂, ◌∙◌, subst}
 use Rattle.art_change.proofs.Endings.{IsLeft, left_by, left_since}
 use Rattle.art_attempt.specs.declared.rooms.Room.{Room}
-use Rattle.art_change.specs.Writes.{HasAnswered, IsExiting, IsDone, gone_by, told_by}
+use Rattle.art_change.specs.Writes.{HasAnswered, IsExiting, IsDone, told_by}
 use Rattle.art_change.specs.declared.writes.Write.{Write}
 use Rattle.art_change.specs.declared.writes.Outcome.{Outcome}
 use Rattle.art_change.specs.declared.writes.Outcome.TheVariants.{New, Present, Gone, Absent, Full, Exhausted, Overlaps, Busy, Crowded}
 use Rattle.art_epoch.specs.declared.limbo.Place.{Place}
-use Rattle.art_epoch.specs.Exit.{ExitFits, IsClosed, is_ended}
 use Rattle.art_epoch.specs.declared.exit.Exit.{Exit}
 use Rattle.art_epoch.specs.declared.exit.Exit.TheVariants as exit
 use Rattle.art_step.specs.Events.{MakesEvent, SeesEvent}
 use Rattle.art_step.specs.Histories.{IsLegal, event, places}
-use Rattle.art_step.specs.Tokens.{links_of}
 use Rattle.art_step.specs.declared.deeds.Deed.{Deed}
 use Rattle.art_step.specs.declared.views.Event.{Event}
 use Rattle.art_step.specs.declared.views.Sizes.{Sizes}

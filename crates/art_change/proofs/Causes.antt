@@ -1,5 +1,5 @@
 -- Why a write ended so is told by what the pass has at its end, as it was at the end of the attempt: a close checks nothing.
-use Rattle.std.proofs.Common.{◌≡◌, ℕ, ◌≤◌, List, true, ap, subst, arith}
+use Rattle.std.proofs.Common.{◌≡◌, ℕ, ◌≤◌, List, ap, arith}
 use Rattle.art_attempt.proofs.Chosen.{exhausted_since, goes_since}
 use Rattle.art_attempt.proofs.LastCheck.{full_stays, overlap_stays}
 use Rattle.art_attempt.specs.declared.attempts.Job.{Job}

@@ -1,5 +1,5 @@
 -- How many steps a write that has ended made, and how many failures it met.
-use Rattle.std.proofs.Common.{◌≡◌, true, List, ap, subst, arith}
+use Rattle.std.proofs.Common.{◌≡◌, List, ap, arith}
 use Rattle.art_attempt.specs.declared.rooms.Room.{Room}
 use Rattle.art_change.proofs.Endings.{left_by}
 use Rattle.art_attempt.specs.Attempts.{EndsSo}

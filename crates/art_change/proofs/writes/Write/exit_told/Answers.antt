@@ -1,8 +1,8 @@
-use Rattle.std.proofs.Common.{◌≡◌, ◌∙◌, ℕ, List, Some, ap, sym, subst, arith}
+use Rattle.std.proofs.Common.{◌∙◌, ℕ, List, Some, ap, sym, subst, arith}
 use Rattle.art_change.proofs.Frames.{done_by, ended_is}
 use Rattle.art_change.proofs.Staged.{asked_at, fits_at, made_at, steps_at}
 use Rattle.art_change.proofs.writes.Write.exit_told.Goals as goal
-use Rattle.art_change.specs.Writes.{Answers, Fits, IsExiting, asks, outcome_in, refuses_at}
+use Rattle.art_change.specs.Writes.{IsExiting, outcome_in, refuses_at}
 use Rattle.art_change.specs.declared.writes.Write.{Write}
 use Rattle.art_change.specs.declared.writes.Stage.{Stage as StageOf}
 use Rattle.art_change.specs.declared.writes.Stage.TheVariants.{Exit, Ended}
@@ -13,8 +13,6 @@ use Rattle.art_epoch.specs.Exit.{ExitFits}
 use Rattle.art_epoch.specs.declared.exit.Exit.{Exit as ExitOf}
 use Rattle.art_epoch.specs.declared.exit.Exit.TheVariants.{Ended as closed}
 use Rattle.art_step.specs.Tokens.{links_of}
-use Rattle.art_step.specs.declared.views.Sizes.{Sizes}
-use Rattle.art_step.specs.declared.views.View.{View}
 
 pub told-requires-clause-fits : goal.told-requires-clause-fits
 told-requires-clause-fits c =

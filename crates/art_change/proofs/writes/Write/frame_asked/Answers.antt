@@ -1,4 +1,3 @@
-use Rattle.std.proofs.Common.{◌∙◌, Some, sym, ap}
 use Rattle.art_change.proofs.Staged.{fits_at}
 use Rattle.art_change.specs.Writes.{gone_by}
 use Rattle.art_change.specs.declared.writes.Stage.TheVariants.{Enter, Exit}

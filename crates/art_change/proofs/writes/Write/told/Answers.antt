@@ -1,5 +1,4 @@
 use Rattle.std.proofs.Common.{◌∙◌, inl, sym}
-use Rattle.art_change.proofs.Staged.{asked_at}
 use Rattle.art_change.proofs.writes.Write.told.Goals as goal
 use Rattle.art_epoch.specs.Limbo.{places_of}
 

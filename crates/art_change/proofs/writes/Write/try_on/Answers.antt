@@ -1,12 +1,10 @@
-use Rattle.std.proofs.Common.{◌≡◌, ◌∙◌, Some, ap, sym, subst, arith}
+use Rattle.std.proofs.Common.{◌∙◌, Some, ap, sym, subst, arith}
 use Rattle.art_attempt.specs.Attempts.{EndsBy}
 use Rattle.art_attempt.specs.declared.attempts.Ending.{Ending}
 use Rattle.art_attempt.specs.declared.attempts.Job.{Job}
 use Rattle.art_change.proofs.Endings.{ended_steps, ends_as}
 use Rattle.art_change.proofs.Staged.{fits_at, steps_at}
-use Rattle.art_change.specs.Writes.{IsTrying}
 use Rattle.art_change.specs.declared.writes.Stage.TheVariants.{Trying}
-use Rattle.art_change.specs.declared.writes.Write.{Write}
 use Rattle.art_change.proofs.writes.Write.try_on.Goals as goal
 
 pub returns-in-None-clause-fits : goal.returns-in-None-clause-fits
