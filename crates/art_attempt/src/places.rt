@@ -127,7 +127,7 @@ impl Attempt {
         ensures fits { (u : View) → Fits (S.sizes steps.old) u self.old room.old (S.view steps.old) →
             Fits (S.sizes steps.old) u self.new room.new (S.view steps.new) }
     {
-        let Stage::Finding(finding) = self.stage else {
+        let Stage::Finding(finding) = &self.stage else {
             return;
         };
         let Some(position) = finding.position() else {
