@@ -18,8 +18,7 @@
 #![tactic(auto)]
 
 ghost use Rattle.std.specs.Prelude.{IfOk};
-ghost use Rattle.art_table.specs.Tables.{IsPassOf};
-ghost use Rattle.art_bench.specs.Clients.{AreOf};
+ghost use Rattle.art_table.specs.Tables.{AreOf, IsPassOf};
 
 use arrayvec::ArrayVec;
 use art_key::Schema;

@@ -2,8 +2,7 @@
 ghost use Rattle.std.specs.Prelude.{◌≡◌, ℕ, ◌<◌, ◌≤◌, List, IfOk, IfSome, [], length, true, vec_capacity};
 ghost use Rattle.art_load.specs.Loads.{LoadsAll};
 ghost use Rattle.art_load.specs.Threads.{AreOfTable, AreStarts, promises_of};
-ghost use Rattle.art_table.specs.Closing.{AreOf};
-ghost use Rattle.art_table.specs.Tables.{IsPassOf};
+ghost use Rattle.art_table.specs.Tables.{AreOf, IsPassOf};
 ghost use Rattle.art_table.specs.declared.passes.Pass.{Pass as PassOf};
 ghost use Rattle.art_table.specs.declared.tables.Table.{Table as TableOf};
 

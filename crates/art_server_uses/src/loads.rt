@@ -1,6 +1,6 @@
 //! Loads of commands by threads.
 ghost use Rattle.std.specs.Prelude.{◌≤◌, length};
-ghost use Rattle.art_server.specs.ArtTable.Closing.{AreOf};
+ghost use Rattle.art_server.specs.ArtTable.Tables.{AreOf};
 
 use crate::clients::opened;
 use art_load::{Counts, LoadFault, load};

@@ -1,7 +1,6 @@
 //! Two clients over sockets, each answered by a worker of its own.
 ghost use Rattle.std.specs.Prelude.{◌≤◌, length};
-ghost use Rattle.art_server.specs.ArtTable.Closing.{AreOf};
-ghost use Rattle.art_server.specs.ArtTable.Tables.{IsPassOf};
+ghost use Rattle.art_server.specs.ArtTable.Tables.{AreOf, IsPassOf};
 
 use crate::clients::{check_session, last_of, opened};
 use crate::gates::{FOUR, FOUR_INSERTED, Hold, ROWS, check_hold, waits_for};

@@ -6,6 +6,7 @@ mod GivenUp
 mod Here
 mod Histories
 mod Looked
+pub mod Members
 mod Opened
 mod Stepped
 mod Whole

@@ -1,5 +1,6 @@
 -- What a table held that is closed with all of its passes.
 use Rattle.std.proofs.Common.{◌≡◌, ◌+◌, ◌==◌, ◌∙◌, ℕ, zero, suc, if◌then◌else◌, List, [], ◌∷◌, Some, inl, inr, refl, sym, ap, subst}
+use Rattle.std.proofs.lemmas.List.Elements.{All-head, All-tail}
 use Rattle.std.proofs.lemmas.List.Sums.{sum_by-cons}
 use Rattle.std.proofs.lemmas.Option.{same_Some}
 use Rattle.std.specs.List.{slice_get}
@@ -30,8 +31,9 @@ use Rattle.art_step.specs.declared.views.Event.{Event as ByteEvent}
 use Rattle.art_step.specs.declared.views.Sizes.{Sizes}
 use Rattle.art_table.proofs.Histories.{as_long}
 use Rattle.art_table.proofs.Looked.{typed_starts}
-use Rattle.art_table.specs.Closing.{AreAllPasses, AreOf, IsClosed, TellsAll, count_of, limbos_of, places_from, seats_of, waits, waits_of}
-use Rattle.art_table.specs.Tables.{caller_of, number_of, schema_in, sizes_in, view_of}
+use Rattle.art_table.proofs.Members.{member_is}
+use Rattle.art_table.specs.Closing.{AreAllPasses, IsClosed, TellsAll, count_of, limbos_of, places_from, seats_of, waits, waits_of}
+use Rattle.art_table.specs.Tables.{AreOf, IsPassOf, caller_of, number_of, schema_in, sizes_in, view_of}
 use Rattle.art_table.specs.declared.closing.Closed.{Closed}
 use Rattle.art_table.specs.declared.passes.Pass.{Pass}
 use Rattle.art_table.specs.declared.tables.Table.{Table}
@@ -57,10 +59,10 @@ module _ (t : Table) (passes : List Pass) (are : AreOf t passes) (all : AreAllPa
   all_seats = as_long (λ (p : Pass). p.seat) passes ∙ all.0
 
   pub hold_none : HoldNoCell (seats_of passes)
-  hold_none a i = let p = seat_of a i in ap (λ (s : Seat). (view_of_pass s).held) p.2 ∙ (are p.0 p.1).caller.ready.frame.may.free
+  hold_none a i = let p = seat_of a i in ap (λ (s : Seat). (view_of_pass s).held) p.2 ∙ (member_is (IsPassOf t) passes are p.0 p.1).caller.ready.frame.may.free
 
   pub have_none : HaveNoNumber (seats_of passes)
-  have_none a i = let p = seat_of a i in ap (λ (s : Seat). (view_of_pass s).hand) p.2 ∙ (are p.0 p.1).caller.ready.hand
+  have_none a i = let p = seat_of a i in ap (λ (s : Seat). (view_of_pass s).hand) p.2 ∙ (member_is (IsPassOf t) passes are p.0 p.1).caller.ready.hand
 
   -- ---- one history
 
@@ -89,7 +91,7 @@ module _ (schema : List Column) (z : Sizes) (log : List ByteEvent) (legal : byte
 
 have_limbos : (t : Table) (passes : List Pass) → AreOf t passes → HaveLimbos (seats_of passes) (limbos_of passes)
 have_limbos t [] are = tt
-have_limbos t (p ∷ passes) are = ((are p (inl refl)).caller.ready.frame.limbo, have_limbos t passes (λ q i. are q (inr i)))
+have_limbos t (p ∷ passes) are = ((All-head (IsPassOf t) p passes are).caller.ready.frame.limbo, have_limbos t passes (All-tail (IsPassOf t) p passes are))
 
 waits_all : (pool : Pool) (passes : List Pass) → waits pool passes ≡ waiting_in_all pool (limbos_of passes)
 waits_all pool [] = refl
@@ -107,7 +109,7 @@ module _ (t : Table) (passes : List Pass) (are : AreOf t passes) (all : AreAllPa
   pub seats_of_table : (i : ℕ) (a : Seat) → slice_get seats i ≡ Some a → Rattle.art_shared.specs.Tables.IsPassOf t.shared a
   seats_of_table i a e =
       let p = seat_of t passes are all a (subst (Member a) seats_are (get_member seats i a e)) in
-      subst (λ (s : Seat). Rattle.art_shared.specs.Tables.IsPassOf t.shared s) (sym p.2) (are p.0 p.1).of
+      subst (λ (s : Seat). Rattle.art_shared.specs.Tables.IsPassOf t.shared s) (sym p.2) (member_is (IsPassOf t) passes are p.0 p.1).of
 
   module _ (e : Ended) (z : Sizes) (z_is : z ≡ sizes_in t) (had : Closes (basis_in t.shared) (words_of e) seats) where
     closes : Closes (basis_in t.shared) (words_of e) (seats_of passes)

@@ -23,10 +23,6 @@ use Rattle.art_table.specs.declared.passes.Pass.{Pass}
 use Rattle.art_table.specs.declared.tables.Table.{Table}
 use Rattle.art_typed.specs.Typed.{typed}
 
--- passes of the table, whatever each of them did
-abbrev pub AreOf : Table → List Pass → Type 0
-AreOf t passes = (p : Pass) → Member p passes → IsPassOf t p
-
 -- one of them has this number
 abbrev pub IsHere : ℕ → List Pass → Type 0
 IsHere n passes = (p : Pass) × Member p passes × (number_of p ≡ n)

@@ -1,4 +1,5 @@
 -- What contracts see of a table, and of a pass.
+use Rattle.std.specs.List.{All}
 use Rattle.std.specs.Prelude.{◌≡◌, ℕ, List}
 use Rattle.art_call.specs.ArtAttempt.Trying.{IsLimited}
 use Rattle.art_call.specs.Calls.{IsCaller, turns_left_in}
@@ -56,3 +57,7 @@ pub record IsPassOf (t : Table) (p : Pass) : Type 0 where
   pub caller : IsCaller (sizes_in t) (view_of p) (caller_of p)
   pub legal : IsLegal (view_of p).seen
   pub all : places (number_of p) (view_of p).seen ≡ own_of p
+
+-- passes of the table, whatever each of them did
+abbrev pub AreOf : Table → List Pass → Type 0
+AreOf t passes = All (IsPassOf t) passes

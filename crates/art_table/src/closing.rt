@@ -2,8 +2,8 @@
 ghost use Rattle.std.specs.Prelude.{◌≡◌, ◌↔◌, ◌<◌, ◌≤◌, [], ℕ, IfErr, IfOk, IsTrue, OnOk, Some, length, vec_capacity};
 ghost use Rattle.std.specs.List.{slice_get};
 ghost use Rattle.art_cell.specs.declared.layouts.Pool.{Pool as PoolOf};
-ghost use Rattle.art_table.specs.Closing.{AreAllPasses, AreOf, Explains, IsClosed, IsHere, limbos_of, seats_of, waits};
-ghost use Rattle.art_table.specs.Tables.{number_of, sizes_in};
+ghost use Rattle.art_table.specs.Closing.{AreAllPasses, Explains, IsClosed, IsHere, limbos_of, seats_of, waits};
+ghost use Rattle.art_table.specs.Tables.{AreOf, number_of, sizes_in};
 ghost use Rattle.art_closed.specs.Counts.{waiting_in_all};
 
 use crate::{Pass, Table};

@@ -3,7 +3,7 @@ ghost use Rattle.std.specs.Prelude.{◌≡◌, ◌↔◌, ℕ, ◌<◌, IfErr, I
 ghost use Rattle.std.specs.List.{slice_get};
 ghost use Rattle.art_table.specs.Opening.{IsOpened, sizes_of};
 ghost use Rattle.art_table.specs.Sizes.{IsConfig};
-ghost use Rattle.art_table.specs.Tables.{schema_in};
+ghost use Rattle.art_table.specs.Tables.{AreOf, schema_in};
 
 use crate::{Config, OpenFault, Pass};
 use art_call::Caller;
@@ -31,6 +31,7 @@ impl Table {
 /// An empty table under the schema, and its passes, numbered from 0. Room for all that their calls need is reserved here.
 pub fn open(alloc: Global, schema: Schema, config: Config) -> Result<(Table, Vec<Pass>), OpenFault>
     ensures opened { IfOk result (λ r. IsOpened schema config r.0 r.1.items) }
+    ensures passes { IfOk result (λ r. AreOf r.0 r.1.items) }
     ensures valid { OnOk result (IsConfig config) }
     ensures config { IfErr result (λ f. (f ≡ OpenFault.BadConfig) ↔ (¬ (IsConfig config))) }
 {

@@ -1,6 +1,5 @@
 //! Worked rows of single calls, looks and the close.
-ghost use Rattle.art_table.specs.Tables.{IsPassOf};
-ghost use Rattle.art_table_uses.specs.Clients.{AreOf};
+ghost use Rattle.art_table.specs.Tables.{AreOf, IsPassOf};
 
 use crate::tables::{
     SIZES, TURNS, alone, check_count, check_find, check_put, check_take, closed, closed_alone,

@@ -1,6 +1,5 @@
 //! Tables for tests, and calls of their passes.
-ghost use Rattle.art_table.specs.Tables.{IsPassOf};
-ghost use Rattle.art_table_uses.specs.Clients.{AreOf};
+ghost use Rattle.art_table.specs.Tables.{AreOf, IsPassOf};
 
 use art_key::Schema;
 use art_model::{Row, Tuple, Value};

@@ -1,6 +1,5 @@
 //! Four threads, each with a pass of its own, insert rows, and all of them stand at the close.
-ghost use Rattle.art_table.specs.Tables.{IsPassOf};
-ghost use Rattle.art_table_uses.specs.Clients.{AreOf};
+ghost use Rattle.art_table.specs.Tables.{AreOf, IsPassOf};
 
 use crate::tables::{closed, opened, puts, row_of};
 use art_table::{Closed, Config, Fault, Inserted, Pass, Table};

@@ -6,10 +6,10 @@ use Rattle.art_key.specs.declared.columns.Column.{Column}
 use Rattle.art_load.specs.Commands.{load_commands}
 use Rattle.art_load.specs.Loads.{LoadEach, LoadsAll, asks_of}
 use Rattle.art_load.specs.declared.counts.Counts.{Counts}
-use Rattle.art_server.specs.ArtTable.Closing.{AreAllPasses, AreOf}
+use Rattle.art_server.specs.ArtTable.Closing.{AreAllPasses}
 use Rattle.art_server.specs.ArtTable.Opening.{IsOpened}
 use Rattle.art_server.specs.ArtTable.Sizes.{IsConfig}
-use Rattle.art_server.specs.ArtTable.Tables.{IsPassOf, number_of, seen_by, sizes_in}
+use Rattle.art_server.specs.ArtTable.Tables.{AreOf, IsPassOf, number_of, seen_by, sizes_in}
 use Rattle.art_server.specs.ArtTable.declared.configs.Config.{Config}
 use Rattle.art_server.specs.ArtTable.declared.passes.Pass.{Pass}
 use Rattle.art_server.specs.ArtTable.declared.tables.Table.{Table}

@@ -1,15 +1,17 @@
 -- A table of one pass, and one of eight.
 use Rattle.std.proofs.Common.{◌≡◌, ℕ, ◌<◌, List, [], ◌∷◌, ◌++◌, length, length-append, zero, suc, Option, Some, inl, inr, refl, sym, ap, subst, arith, ◌∙◌}
 use Rattle.std.proofs.lemmas.List.{nil_from_length}
+use Rattle.std.proofs.lemmas.List.Elements.{All-cons, All-nil}
+use Rattle.std.proofs.lemmas.Option.{slice_get-get_or}
 use Rattle.std.specs.List.{slice_get}
 use Rattle.std.specs.Option.{option_to_list}
 use Rattle.art_key.specs.declared.columns.Column.{Column}
 use Rattle.art_schedule.specs.Schedules.{ComeBack}
 use Rattle.art_shared.specs.SamePass.{SamePass}
 use Rattle.art_step.specs.Views.{Member}
-use Rattle.art_server.specs.ArtTable.Closing.{AreAllPasses, AreOf, Explains}
+use Rattle.art_server.specs.ArtTable.Closing.{AreAllPasses, Explains}
 use Rattle.art_server.specs.ArtTable.Opening.{IsNew, IsOpened}
-use Rattle.art_server.specs.ArtTable.Tables.{IsPassOf, number_of, sizes_in}
+use Rattle.art_server.specs.ArtTable.Tables.{AreOf, IsPassOf, number_of, sizes_in}
 use Rattle.art_server.specs.ArtTable.declared.closing.CloseRefusal.{CloseRefusal}
 use Rattle.art_server.specs.ArtTable.declared.closing.CloseRefusal.TheVariants as close
 use Rattle.art_server.specs.ArtTable.declared.configs.Config.{Config}
@@ -24,12 +26,8 @@ use Rattle.art_tools.specs.declared.run_faults.RunFault.TheVariants.{NoMemory}
 
 -- ---- all passes of the table
 
-only_member : (q p : Pass) → Member p (q ∷ []) → p ≡ q
-only_member q p (inl same) = same
-only_member q p (inr none) = absurd none
-
 pub one_of : (t : Table) (q : Pass) → IsPassOf t q → AreOf t (q ∷ [])
-one_of t q is p here = subst (IsPassOf t) (sym (only_member q p here)) is
+one_of t q is = All-cons (IsPassOf t) q [] is (All-nil (IsPassOf t))
 
 pub one_is_all : (t : Table) (q : Pass) → (sizes_in t).passes ≡ 1 → number_of q ≡ 0 → AreAllPasses (sizes_in t).passes (q ∷ [])
 one_is_all t q one number = (sym one, λ n below. (q, inl refl, let few = below in omega (arith, one, number, few)))
@@ -68,16 +66,11 @@ opened_only schema sizes t p opened =
 same_some : {A : Type 0} (x y : A) → Some x ≡ Some y → x ≡ y
 same_some x y e = cc
 
--- one that is found at a place is among them, and one that is among them is found at a place
+-- one that is found at a place is among them
 get_member : (xs : List Pass) (n : ℕ) (p : Pass) → slice_get xs n ≡ Some p → Member p xs
 get_member [] n p e = absurd (cc)
 get_member (x ∷ xs) zero p e = inl (sym (same_some x p e))
 get_member (x ∷ xs) (suc n) p e = inr (get_member xs n p e)
-
-member_get : (xs : List Pass) (p : Pass) → Member p xs → (n : ℕ) × (slice_get xs n ≡ Some p)
-member_get [] p here = absurd here
-member_get (x ∷ xs) p (inl same) = (0, ap (λ q. Some q) (sym same))
-member_get (x ∷ xs) p (inr rest) = let there = member_get xs p rest in (suc there.0, there.1)
 
 -- below the length something is found
 get_below : (xs : List Pass) (n : ℕ) → n < length xs → (p : Pass) × (slice_get xs n ≡ Some p)
@@ -87,7 +80,7 @@ get_below (x ∷ xs) (suc n) below = get_below xs n (omega arith)
 
 module _ (t : Table) (passes : List Pass) (places : AreInPlace t passes) where
   pub all_of : AreOf t passes
-  all_of p here = let there = member_get passes p here in (places there.0 p there.1).0
+  all_of k d below = (places k _ (slice_get-get_or passes k d below)).0
 
   pub all_here : (count : ℕ) → length passes ≡ count → AreAllPasses count passes
   all_here count long = (

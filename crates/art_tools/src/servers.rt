@@ -1,7 +1,7 @@
 //! A server of a table of its own.
 ghost use Rattle.std.specs.Prelude.{◌≡◌, ◌≤◌, ◌<◌, ◌^◌, IfOk, length};
 ghost use Rattle.art_key.specs.Schemas.{schema_of};
-ghost use Rattle.art_server.specs.ArtTable.Closing.{AreOf};
+ghost use Rattle.art_server.specs.ArtTable.Tables.{AreOf};
 ghost use Rattle.art_tools.specs.Servers.{HaveBeenServed, RunsServer, served_text};
 ghost use Rattle.art_tools.specs.Ranges.{IsServe};
 ghost use Rattle.art_tools.specs.Statuses.{fault_in};

@@ -1,6 +1,7 @@
 //! A table with a pass for each thread, from its opening to its close.
 ghost use Rattle.std.specs.Prelude.{◌≡◌, IfErr, IfOk};
-ghost use Rattle.art_server.specs.ArtTable.Closing.{AreOf, IsClosed};
+ghost use Rattle.art_server.specs.ArtTable.Closing.{IsClosed};
+ghost use Rattle.art_server.specs.ArtTable.Tables.{AreOf};
 ghost use Rattle.art_server.specs.ArtTable.Opening.{IsOpened};
 ghost use Rattle.art_server.specs.ArtTable.Sizes.{IsConfig};
 ghost use Rattle.art_tools.specs.Tables.{NotClosed, of_passes};

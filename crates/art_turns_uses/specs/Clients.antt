@@ -1,20 +1,14 @@
 -- Passes and attempts of a table, as tests have them.
-use Rattle.std.specs.Prelude.{◌≡◌, ℕ, List, Some}
-use Rattle.std.specs.List.{slice_get}
+use Rattle.std.specs.Prelude.{ℕ, List}
 use Rattle.art_model.specs.declared.commands.Command.{Command}
 use Rattle.art_model.specs.declared.rows.Row.{Row}
 use Rattle.art_scan.specs.Running.{IsRunning}
 use Rattle.art_scan.specs.declared.running.Running.{Running}
 use Rattle.art_table.specs.Calls.{IsAttempt}
-use Rattle.art_table.specs.Tables.{IsPassOf}
 use Rattle.art_table.specs.declared.attempts.Attempt.{Attempt}
 use Rattle.art_table.specs.declared.jobs.Job.{Job}
 use Rattle.art_table.specs.declared.passes.Pass.{Pass}
 use Rattle.art_table.specs.declared.tables.Table.{Table}
-
--- each is one of the table
-abbrev pub AreOf : Table → List Pass → Type 0
-AreOf t passes = (n : ℕ) (p : Pass) → slice_get passes n ≡ Some p → IsPassOf t p
 
 -- an attempt of the table, whatever it was asked for
 pub record IsGoing (t : Table) (a : Attempt) : Type 0 where

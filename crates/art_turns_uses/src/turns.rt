@@ -1,7 +1,7 @@
 //! Four attempts go on by drawn turns: what they did, in the order in which it was made, is a legal history.
 ghost use Rattle.art_table.specs.Jobs.{IsRange};
-ghost use Rattle.art_table.specs.Tables.{IsPassOf};
-ghost use Rattle.art_turns_uses.specs.Clients.{AreOf, IsGoing};
+ghost use Rattle.art_table.specs.Tables.{AreOf, IsPassOf};
+ghost use Rattle.art_turns_uses.specs.Clients.{IsGoing};
 ghost use Rattle.art_turns_uses.specs.Turns.{AreGoing};
 
 use crate::attempts::{begun, finished, stepped};

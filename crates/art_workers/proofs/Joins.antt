@@ -2,11 +2,11 @@
 use Rattle.std.proofs.Common.{◌≡◌, ◌∙◌, ℕ, ◌+◌, List, [], ◌∷◌, ◌++◌, length, map, append_assoc, append-nil, inl, inr, refl, sym, ap, subst, arith, Result, Ok, Err, IfOk, true}
 use Rattle.std.specs.List.{AllZip}
 use Rattle.std.proofs.lemmas.List.{length-map}
+use Rattle.std.proofs.lemmas.List.Elements.{All-cons, All-nil}
 use Rattle.std.proofs.lemmas.List.Sums.{sum_by-cons}
 use Rattle.art_sessions.specs.Talks.{HasTalks, Worker}
 use Rattle.art_step.specs.Views.{Member}
-use Rattle.art_sessions.specs.ArtServer.ArtTable.Closing.{AreOf}
-use Rattle.art_sessions.specs.ArtServer.ArtTable.Tables.{IsPassOf}
+use Rattle.art_sessions.specs.ArtServer.ArtTable.Tables.{AreOf, IsPassOf}
 use Rattle.art_sessions.specs.ArtServer.ArtTable.declared.passes.Pass.{Pass}
 use Rattle.art_sessions.specs.ArtServer.ArtTable.declared.tables.Table.{Table}
 use Rattle.art_workers.proofs.Lists.{as_many, some_all}
@@ -110,9 +110,8 @@ joined t started running back n none j = by j.left refl
 -- ---- all are joined
 
 of_afters : (t : Table) (ws : List Worker) → ((w : Worker) → Member w ws → IsPassOf t w.after) → AreOf t (afters_of ws)
-of_afters t [] are p m = absurd m
-of_afters t (w ∷ ws) are p (inl same) = subst (IsPassOf t) (sym same) (are w (inl refl))
-of_afters t (w ∷ ws) are p (inr m) = of_afters t ws (λ x n. are x (inr n)) p m
+of_afters t [] are = All-nil (IsPassOf t)
+of_afters t (w ∷ ws) are = All-cons (IsPassOf t) w.after (afters_of ws) (are w (inl refl)) (of_afters t ws (λ x n. are x (inr n)))
 
 pub worked_of : (t : Table) (started back : List Pass) (n : ℕ) → HaveWorked t started back n → AreOf t back
 worked_of t started back n h = subst (AreOf t) h.after (of_afters t h.workers (λ w m. (h.had w m).0))

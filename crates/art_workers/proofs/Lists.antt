@@ -1,28 +1,18 @@
 -- Some of a list's passes, and passes at the front of one.
-use Rattle.std.proofs.Common.{◌≡◌, ◌≤◌, ◌+◌, List, [], ◌∷◌, ◌++◌, length, length-append, sym, subst, inl, inr, refl, ap, ◌∙◌, arith}
-use Rattle.art_step.specs.Views.{Member}
-use Rattle.art_sessions.specs.ArtServer.ArtTable.Closing.{AreOf}
-use Rattle.art_sessions.specs.ArtServer.ArtTable.Tables.{IsPassOf}
+use Rattle.std.proofs.Common.{◌≡◌, ◌≤◌, ◌+◌, List, [], ◌∷◌, ◌++◌, length, length-append, Some, sym, subst, inl, inr, refl, ap, ◌∙◌, arith}
+use Rattle.std.proofs.lemmas.List.Elements.{All-pop}
+use Rattle.art_sessions.specs.ArtServer.ArtTable.Tables.{AreOf, IsPassOf}
 use Rattle.art_sessions.specs.ArtServer.ArtTable.declared.passes.Pass.{Pass}
 use Rattle.art_sessions.specs.ArtServer.ArtTable.declared.tables.Table.{Table}
 use Rattle.art_workers.specs.Serving.{AreSomeOf}
 
-last_in : (xs : List Pass) (y : Pass) → Member y (xs ++ y ∷ [])
-last_in [] y = inl refl
-last_in (x ∷ xs) y = inr (last_in xs y)
-
-first_in : (xs : List Pass) (y p : Pass) → Member p xs → Member p (xs ++ y ∷ [])
-first_in [] y p m = absurd m
-first_in (x ∷ xs) y p (inl same) = inl same
-first_in (x ∷ xs) y p (inr m) = inr (first_in xs y p m)
-
 -- the last pass is of the table, and so are the others
 module _ (t : Table) (all rest : List Pass) (p : Pass) (is : all ≡ rest ++ p ∷ []) (are : AreOf t all) where
   pub last_of : IsPassOf t p
-  last_of = are p (subst (Member p) (sym is) (last_in rest p))
+  last_of = (All-pop (IsPassOf t) all rest (Some p) is are).1
 
   pub rest_of : AreOf t rest
-  rest_of q m = are q (subst (Member q) (sym is) (first_in rest p q m))
+  rest_of = (All-pop (IsPassOf t) all rest (Some p) is are).0
 
 pub one_fewer : {A : Type 0} (all rest : List A) (x : A) → all ≡ rest ++ x ∷ [] → length all ≡ length rest + 1
 one_fewer {A} all rest x is =

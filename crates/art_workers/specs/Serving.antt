@@ -4,8 +4,8 @@ use Rattle.std.specs.List.{AllZip, sum_by}
 use Rattle.std.specs.declared.thread.PromisedHandle.{PromisedHandle}
 use Rattle.art_sessions.specs.Talks.{AreOneMap, HasTalks, Talk, Worker}
 use Rattle.art_step.specs.Views.{Member}
-use Rattle.art_sessions.specs.ArtServer.ArtTable.Closing.{AreOf, IsClosed}
-use Rattle.art_sessions.specs.ArtServer.ArtTable.Tables.{IsPassOf}
+use Rattle.art_sessions.specs.ArtServer.ArtTable.Closing.{IsClosed}
+use Rattle.art_sessions.specs.ArtServer.ArtTable.Tables.{AreOf, IsPassOf}
 use Rattle.art_sessions.specs.ArtServer.ArtTable.declared.closing.Closed.{Closed}
 use Rattle.art_sessions.specs.ArtServer.ArtTable.declared.passes.Pass.{Pass}
 use Rattle.art_sessions.specs.ArtServer.ArtTable.declared.tables.Table.{Table}

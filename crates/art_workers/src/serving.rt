@@ -1,8 +1,7 @@
 //! The workers of a server: one for each pass, each with one session after another.
 ghost use Rattle.std.specs.Prelude.{◌≡◌, ◌≤◌, List, [], length, None, Some, IfOk, IfSome, true, vec_capacity};
 ghost use Rattle.std.specs.List.{AllZip};
-ghost use Rattle.art_sessions.specs.ArtServer.ArtTable.Closing.{AreOf};
-ghost use Rattle.art_sessions.specs.ArtServer.ArtTable.Tables.{IsPassOf};
+ghost use Rattle.art_sessions.specs.ArtServer.ArtTable.Tables.{AreOf, IsPassOf};
 ghost use Rattle.art_sessions.specs.ArtServer.ArtTable.declared.passes.Pass.{Pass as PassOf};
 ghost use Rattle.art_sessions.specs.ArtServer.ArtTable.declared.tables.Table.{Table as TableOf};
 ghost use Rattle.art_workers.specs.Serving.{HasWorked, HaveServed, HaveWorked, IsTaskOf, Starts};

@@ -1,11 +1,11 @@
 use Rattle.std.proofs.Common.{◌≡◌, ◌∙◌, List, [], ◌∷◌, length, length-append, ap, sym, subst, arith, rules, inl, inr}
-use Rattle.art_load.proofs.Members.{no_items, of_more, of_table_last, promises_last}
+use Rattle.std.proofs.lemmas.List.Elements.{All-cons, All-same}
+use Rattle.art_load.proofs.Members.{no_items, of_table_last, promises_last}
 use Rattle.art_load.proofs.Starts.{IsJoining, joined, joins}
 use Rattle.art_load.proofs.Totals.{added_total, as_many}
 use Rattle.art_load.proofs.threads.join_each.Goals as goal
-use Rattle.art_table.specs.Closing.{AreOf}
 use Rattle.art_load.specs.Counts.{total_of}
-use Rattle.art_table.specs.Tables.{IsPassOf}
+use Rattle.art_table.specs.Tables.{AreOf, IsPassOf}
 use Rattle.art_load.specs.Threads.{AreOfTable, promises_of}
 use Rattle.art_load.specs.declared.counts.Counts.{Counts}
 use Rattle.art_table.specs.declared.passes.Pass.{Pass}
@@ -56,11 +56,8 @@ loop-handle-preserved g c =
           let b = i.of t a in
           let last = of_table_last t (promises_of rest) h.promise (subst (AreOfTable t) promises b.0) in (
             last.0,
-            subst (AreOf t) (sym passes) (of_more t q c.loop-handle.passes.items
-                (λ p m. elim m [
-                  | inl same ↦ subst (IsPassOf t) (sym same) (subst (λ (x : Table). IsPassOf x q) last.1.table c.join-loaded.ensures.pass)
-                  | inr none ↦ absurd none
-                ]) b.1),
+            All-same (IsPassOf t) c.in-Ok.new.passes.items (q ∷ c.loop-handle.passes.items) passes (All-cons (IsPassOf t) q c.loop-handle.passes.items
+                (subst (λ (x : Table). IsPassOf x q) last.1.table c.join-loaded.ensures.pass) b.1),
           );
       loads = λ t seed keys ops ps a.
           subst (λ (l : List Pass). IsJoining t seed keys ops ps (promises_of rest) c.add.new.self l) (sym passes)

@@ -1,6 +1,6 @@
 use Rattle.std.proofs.Common.{◌+◌, ◌*◌, ◌^◌, ◌≤◌, ℕ, List, length, vec_capacity}
 use Rattle.art_load.specs.Counts.{total_of}
-use Rattle.art_table.specs.Closing.{AreOf}
+use Rattle.art_table.specs.Tables.{AreOf}
 use Rattle.art_load.specs.Threads.{AreOfTable, AreStarts, promises_of}
 use Rattle.art_table.specs.declared.passes.Pass.{Pass}
 use Rattle.art_table.specs.declared.tables.Table.{Table}

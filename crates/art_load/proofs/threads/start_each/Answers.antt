@@ -1,16 +1,16 @@
-use Rattle.std.proofs.Common.{◌∙◌, ◌++◌, ◌<◌, ◌^◌, ℕ, List, [], ◌∷◌, length, length-append, append_assoc, ap, sym, subst, arith, rules}
-use Rattle.art_load.proofs.Members.{first_in, last_in}
+use Rattle.std.proofs.Common.{◌∙◌, ◌++◌, ◌<◌, ◌^◌, ℕ, List, [], ◌∷◌, length, length-append, append_assoc, Some, ap, sym, subst, arith, rules}
+use Rattle.std.proofs.lemmas.List.Elements.{All-pop}
 use Rattle.art_load.proofs.threads.start_each.Goals as goal
-use Rattle.art_step.specs.Views.{Member}
 use Rattle.art_load.specs.Commands.{load_commands}
 use Rattle.art_load.specs.Threads.{AreOfTable, AreStarts, promises_of}
+use Rattle.art_table.specs.Tables.{IsPassOf}
 use Rattle.art_table.specs.declared.passes.Pass.{Pass}
 use Rattle.art_load.specs.declared.commands.Plan.{Plan}
 
 pub start-requires-clause-pass : goal.start-requires-clause-pass
 start-requires-clause-pass g c =
     let p = c.in-Some.pass in
-    c.loop-pass.invariant.of p (subst (Member p) (sym c.in-Some.ensures.items) (last_in c.pop.new.self.items p))
+    (All-pop (IsPassOf c.args.table.now) c.loop-pass.passes.items c.pop.new.self.items (Some p) c.in-Some.ensures.items c.loop-pass.invariant.of).1
 
 pub loop-pass-preserved-in-Ok-1 : goal.loop-pass-preserved-in-Ok-1
 loop-pass-preserved-in-Ok-1 g c =
@@ -30,7 +30,7 @@ loop-pass-preserved-in-Ok-1 g c =
     let few = i.few in
     let fits : plan.ops < 2 ^ 32 = search rules in
     record {
-      of = λ q m. i.of q (subst (Member q) (sym items) (first_in rest p q m));
+      of = (All-pop (IsPassOf c.args.table.now) c.loop-pass.passes.items rest (Some p) items i.of).0;
       room = omega (arith, room, long, more, wide);
       few = omega (arith, few, long, more);
       table = subst (λ (l : List _). AreOfTable t (promises_of l)) (sym handles)
@@ -60,7 +60,7 @@ loop-pass-preserved g c =
     let room = i.room in
     let few = i.few in
     record {
-      of = λ q m. i.of q (subst (Member q) (sym items) (first_in rest p q m));
+      of = (All-pop (IsPassOf c.args.table.now) c.loop-pass.passes.items rest (Some p) items i.of).0;
       room = omega (arith, room, long);
       few = omega (arith, few, long);
       table = i.table;

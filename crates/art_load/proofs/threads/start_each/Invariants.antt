@@ -1,5 +1,5 @@
 use Rattle.std.proofs.Common.{◌≡◌, ◌+◌, ◌≤◌, ◌++◌, List, length, true, vec_capacity}
-use Rattle.art_table.specs.Closing.{AreOf}
+use Rattle.art_table.specs.Tables.{AreOf}
 use Rattle.art_load.specs.Threads.{AreOfTable, AreStarts, promises_of}
 use Rattle.art_table.specs.declared.passes.Pass.{Pass}
 use Rattle.art_load.proofs.threads.start_each.Given as goal

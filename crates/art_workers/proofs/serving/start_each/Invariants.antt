@@ -1,5 +1,5 @@
 use Rattle.std.proofs.Common.{◌+◌, ◌≤◌, length, vec_capacity}
-use Rattle.art_sessions.specs.ArtServer.ArtTable.Closing.{AreOf}
+use Rattle.art_sessions.specs.ArtServer.ArtTable.Tables.{AreOf}
 use Rattle.art_workers.proofs.Starts.{IsStarting}
 use Rattle.art_workers.proofs.serving.start_each.Given as goal
 
