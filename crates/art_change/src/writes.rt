@@ -254,7 +254,7 @@ impl Write {
         ensures restarts { self.new.restarts ≡ self.old.restarts }
         ensures refuses { self.old.left ≡ 0 → WillRefuse self.new }
         ensures apart { IsApart self.new }
-        ensures key { SameRow room.old room.new }
+        ensures hints { room.new ≡ given (freed_by (asks self.old room.old (places_of limbo.old))) room.old }
         ensures left { steps_left self.new room.new (places_of limbo.new) < steps_left self.old room.old (places_of limbo.old) }
         ensures fits { (z : Sizes) (u v w : View) (ps : List Place) (asked : ActionOf) →
             Fits z u ps self.old room.old (places_of limbo.old) v → asks self.old room.old (places_of limbo.old) ≡ Some asked →

@@ -1,9 +1,9 @@
 -- The room is as it was but for where searches begin, so the opening goes on in it.
-use Rattle.std.proofs.Common.{Some, sym, subst, arith}
-use Rattle.art_attempt.specs.declared.rooms.Room.{Room}
-use Rattle.art_change.proofs.Frames.{given_asks, given_fits, given_key, given_row, given_steps}
+use Rattle.std.proofs.Common.{◌∙◌, Some, ap, sym, arith}
+use Rattle.art_change.proofs.Frames.{given_asks, given_fits, given_row, given_steps}
 use Rattle.art_change.proofs.writes.Write.enter_on.Goals as goal
-use Rattle.art_change.specs.Writes.{SameRow, freed_by}
+use Rattle.art_change.specs.Writes.{asks_at, freed_by, given}
+use Rattle.art_change.specs.declared.writes.Stage.{Stage}
 use Rattle.art_epoch.specs.Limbo.{places_of}
 use Rattle.art_epoch.specs.Enter.{asks as enter_asks}
 
@@ -50,7 +50,7 @@ returns-clause-fits c z u v w ps asked fits is row =
     c.enter_told.ensures.fits z u v w ps asked (given_fits m e at o r s same z u ps qs v fits) (given_asks m e at o r s same qs (Some asked) is)
     (given_row m e at o r s same z asked c.args.answer v w row)
 
-pub returns-clause-key : goal.returns-clause-key
-returns-clause-key c =
+pub returns-clause-hints : goal.returns-clause-hints
+returns-clause-hints c =
     let r = c.args.room.now in
-    subst (λ (s : Room). SameRow r s) (sym c.note_given.ensures) (given_key (freed_by (enter_asks c.in-Enter.enter (places_of c.args.limbo.now))) r)
+    c.note_given.ensures ∙ ap (λ (s : Stage). given (freed_by (asks_at s r (places_of c.args.limbo.now))) r) (sym c.in-Enter.is)
