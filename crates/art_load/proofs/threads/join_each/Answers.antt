@@ -56,7 +56,7 @@ loop-handle-preserved g c =
           let b = i.of t a in
           let last = of_table_last t (promises_of rest) h.promise (subst (AreOfTable t) promises b.0) in (
             last.0,
-            All-same (IsPassOf t) c.in-Ok.new.passes.items (q ∷ c.loop-handle.passes.items) passes (All-cons (IsPassOf t) q c.loop-handle.passes.items
+            All-same (IsPassOf t) _ (q ∷ c.loop-handle.passes.items) passes (All-cons (IsPassOf t) q c.loop-handle.passes.items
                 (subst (λ (x : Table). IsPassOf x q) last.1.table c.join-loaded.ensures.pass) b.1),
           );
       loads = λ t seed keys ops ps a.
