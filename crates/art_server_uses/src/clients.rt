@@ -1,6 +1,5 @@
 //! Tables, passes and sessions, as tests have them.
-ghost use Rattle.art_server_uses.specs.Clients.{AreOf};
-ghost use Rattle.art_server.specs.ArtTable.Tables.{IsPassOf};
+ghost use Rattle.art_server.specs.ArtTable.Tables.{AreOf, IsPassOf};
 
 use art_key::Schema;
 use art_server::art_table::{Config, Pass, Table, open};
