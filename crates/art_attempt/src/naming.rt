@@ -72,7 +72,7 @@ impl Naming {
     ghost use Rattle.art_find.specs.Asking.{MayLook};
 
     /// At its beginning: of the node that a word names which was read of the node where the key stands, checked or not.
-    pub fn new(node: Node) -> Naming
+    pub(crate) fn new(node: Node) -> Naming
         ensures going { ended_at result ≡ None }
         ensures fits { (z : Sizes) (k : List ℕ) (t : PositionOf) (read_set : ReadSetOf) (lower : List (Option ℕ)) (u : View) →
             StillNames z k t node read_set u u → Fits z k t node result read_set lower u u }
@@ -81,7 +81,7 @@ impl Naming {
     }
 
     /// The next step, or none where it has ended.
-    pub fn next(&self, position: &Position) -> Option<Action>
+    pub(crate) fn next(&self, position: &Position) -> Option<Action>
         ensures asks { result ≡ asks position.now self.now }
         ensures allowed { (z : Sizes) (k : List ℕ) (n : NodeOf) (read_set : ReadSetOf) (lower : List (Option ℕ)) (u v : View) →
             Fits z k position.now n self.now read_set lower u v → IfSome result (MayLook z (λ s. ⊤) v) }
@@ -99,7 +99,7 @@ impl Naming {
     }
 
     /// The step that it asked for was made, with this answer. Of a node that is stamped no word is read yet.
-    pub fn told(&mut self, lower: &mut Reads, answer: Answer)
+    pub(crate) fn told(&mut self, lower: &mut Reads, answer: Answer)
         ensures left { ended_at self.old ≡ None → steps_left self.new < steps_left self.old }
         ensures fits { (z : Sizes) (k : List ℕ) (t : PositionOf) (n : NodeOf) (read_set : ReadSetOf) (deed : Deed) (u v w : View)
             (asked : ActionOf) → Fits z k t n self.old read_set lower.old u v → asks t self.old ≡ Some asked →
@@ -113,7 +113,7 @@ impl Naming {
     }
 
     /// How it ended, if it has.
-    pub fn ended(&self) -> Option<Named>
+    pub(crate) fn ended(&self) -> Option<Named>
         ensures at { result ≡ ended_at self.now }
     {
         match *self {

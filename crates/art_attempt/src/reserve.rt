@@ -59,7 +59,7 @@ impl Reserve {
     ghost use Rattle.art_attempt.specs.declared.reserve.Reserved.{Reserved as ReservedOf};
 
     /// At its beginning.
-    pub fn new(demand: &Demand, stock: &mut Stock) -> Reserve
+    pub(crate) fn new(demand: &Demand, stock: &mut Stock) -> Reserve
         requires { (k : List ℕ) × (value : ℕ) × (u : View) × HasStock demand.now.sizes k value u stock.old }
         ensures keeps { HasLeafWords stock.old → HasLeafWords stock.new }
         ensures fits { (k : List ℕ) (value : ℕ) (u : View) → HasStock demand.now.sizes k value u stock.old →
@@ -84,7 +84,7 @@ impl Reserve {
 
     /// The next step, or none where it has ended.
     #[inline(always)]
-    pub fn next(&self, key: &[u8], value: u64, stock: &Stock) -> Option<Action>
+    pub(crate) fn next(&self, key: &[u8], value: u64, stock: &Stock) -> Option<Action>
         requires few { length key.now ≤ 64 }
         ensures asks { result ≡ asks key.now value stock.now self.now }
         ensures allowed { (z : SizesOf) (u v : View) → (demand : DemandOf) → Fits z demand key.now value self.now stock.now u v →
@@ -97,7 +97,7 @@ impl Reserve {
 
     /// The step that it asked for was made, and answered so.
     #[inline(always)]
-    pub fn told(&mut self, demand: &Demand, stock: &mut Stock, answer: Answer)
+    pub(crate) fn told(&mut self, demand: &Demand, stock: &mut Stock, answer: Answer)
         requires { (z : SizesOf) × (k : List ℕ) × (value : ℕ) × (u : View) × (v : View) × (w : View) × (asked : ActionOf) ×
             Fits z demand.now k value self.old stock.old u v × (asks k value stock.old self.old ≡ Some asked) ×
             Answers z None asked answer v w }
@@ -157,7 +157,7 @@ impl Reserve {
 
     /// Makes its steps, one after another, as long as more than one turn is left.
     #[inline(always)]
-    pub fn run<S: EpochSteps>(
+    pub(crate) fn run<S: EpochSteps>(
         &mut self,
         steps: &mut S,
         demand: &Demand,
@@ -191,7 +191,7 @@ impl Reserve {
     }
 
     /// How it ended, if it has.
-    pub fn ended(&self) -> Option<Reserved>
+    pub(crate) fn ended(&self) -> Option<Reserved>
         ensures at { result ≡ ended_at self.now }
     {
         match *self {

@@ -75,7 +75,7 @@ impl Room {
     }
 
     /// The number of a node of the layout, and 0 where none is in hand or none is needed.
-    pub fn number_for(&self, layout: Option<Layout>) -> u32
+    pub(crate) fn number_for(&self, layout: Option<Layout>) -> u32
         ensures { result ≡ number_for self.now.stock layout }
     {
         let Some(layout) = layout else {
@@ -85,7 +85,7 @@ impl Room {
     }
 
     /// The numbers that the change linked have left the hand.
-    pub fn spend(&mut self)
+    pub(crate) fn spend(&mut self)
         ensures { self.new ≡ record self.old { stock = spent_by self.old.change self.old.stock } }
     {
         match self.change.effects.leaf {

@@ -96,7 +96,12 @@ impl Validate {
     ghost use Rattle.art_find.specs.Asking.{MayLook};
 
     /// At its beginning.
-    pub fn new(position: &Position, cells: &Cells, read_set: &ReadSet, lower: &Reads) -> Validate
+    pub(crate) fn new(
+        position: &Position,
+        cells: &Cells,
+        read_set: &ReadSet,
+        lower: &Reads,
+    ) -> Validate
         ensures going { ended_at result ≡ None }
         ensures fits { (z : Sizes) (k : List ℕ) (u : View) → Knows z k position.now cells.now read_set.now lower.now u u →
             Fits z k position.now cells.now result read_set.now lower.now u u }
@@ -111,7 +116,7 @@ impl Validate {
     }
 
     /// The next step, or none where it has ended.
-    pub fn next(&self, position: &Position, cells: &Cells) -> Option<Action>
+    pub(crate) fn next(&self, position: &Position, cells: &Cells) -> Option<Action>
         ensures asks { result ≡ asks position.now cells.now self.now }
         ensures allowed { (z : Sizes) (k : List ℕ) (read_set : ReadSetOf) (lower : List (Option ℕ)) (u v : View) →
             Fits z k position.now cells.now self.now read_set lower u v → IfSome result (MayLook z (λ s. ⊤) v) }
@@ -122,7 +127,7 @@ impl Validate {
     }
 
     /// The step that it asked for was made, with this answer.
-    pub fn told(
+    pub(crate) fn told(
         &mut self,
         position: &Position,
         cells: &Cells,
@@ -149,7 +154,7 @@ impl Validate {
 
     /// Makes its steps, one after another, as long as more than one turn is left.
     #[inline(always)]
-    pub fn run<S: EpochSteps>(
+    pub(crate) fn run<S: EpochSteps>(
         &mut self,
         steps: &mut S,
         position: &Position,
@@ -189,7 +194,7 @@ impl Validate {
     }
 
     /// How it ended, if it has.
-    pub fn ended(&self) -> Option<Validated>
+    pub(crate) fn ended(&self) -> Option<Validated>
         ensures at { result ≡ ended_at self.now }
     {
         match *self {
