@@ -1,7 +1,7 @@
 -- Numbers come into the hand, or one is not found.
 use Rattle.std.proofs.Common.{◌≡◌, Some, inr, refl, sym, ap, ◌∙◌, subst, arith}
 use Rattle.std.proofs.lemmas.Option.{same_Some}
-use Rattle.art_attempt.proofs.Chosen.{case_comes, comes_insert, no_smaller}
+use Rattle.art_attempt.proofs.Chosen.{case_comes, comes_insert, no_smaller, wants_same}
 use Rattle.art_attempt.proofs.LastCheck.{check_stays, stood_stays}
 use Rattle.art_attempt.proofs.Spent.{few_looks}
 use Rattle.art_attempt.proofs.Tries.{standing_takes, still_takes}
@@ -14,6 +14,7 @@ use Rattle.art_attempt.specs.declared.cases.Case.{Case}
 use Rattle.art_attempt.specs.declared.cases.Case.TheVariants.{NewLeaf, DropLeaf, Shrink, MergeLeaf, MergeNode, Torn}
 use Rattle.art_attempt.specs.declared.rooms.Room.{Room}
 use Rattle.art_cell.specs.declared.layouts.Pool.{Pool}
+use Rattle.art_epoch.specs.declared.stocks.Stock.{Stock}
 use Rattle.art_find.specs.Findings.{IsStanding}
 use Rattle.art_find.specs.declared.findings.Position.{Position}
 use Rattle.art_attempt.specs.Reserve as reserve
@@ -38,6 +39,18 @@ module _ (z : Sizes) (u : View) (j : Job) (t : Position) (c : Case) (q : Reserve
 
   supplies_later : IsLater h.early v
   supplies_later = record { steps = h.fits.only.later; failures = h.fits.only.failures }
+
+  -- it goes on
+  pub supplies_on : (next : Reserve) (stock : Stock) (w : View) → reserve.Fits z (demand_of z c t.verdict) r.row.key.items r.row.value next stock h.early w → HasSupplies z u j t c next (record r { stock = stock }) w
+  supplies_on next stock w fits = record {
+    early = h.early;
+    base = h.base;
+    spent = h.spent;
+    case = h.case;
+    standing = h.standing;
+    wants = wants_same z u t r h.early c stock h.wants;
+    fits = fits;
+  }
 
   -- with the numbers few steps were made
   pub supplies_so : EndsWithin z u 21700 r v

@@ -174,7 +174,7 @@ impl Attempt {
                 self.find_all(steps, room, left);
                 self.settle_on(steps, room, left);
             }
-            Stage::Placed { position, part } => self.part_all(steps, room, &position, part, left),
+            Stage::Placed { .. } => self.part_all(steps, room, left),
             Stage::Apply(apply) => self.make_all(steps, room, apply, left),
             Stage::Ended(_) => {}
         }

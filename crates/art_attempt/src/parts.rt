@@ -2,7 +2,9 @@
 ghost use Rattle.std.specs.Prelude.{◌≡◌, ◌≢◌, ℕ, ◌+◌, ◌<◌, ◌≤◌, length, None, Some, true, false};
 ghost use Rattle.art_attempt.specs.Attempts.{Fits, IsRoom, IsSameTry, PartFits, StandsAt, deed_at, ended_at, is_free, part_asks};
 ghost use Rattle.art_attempt.specs.declared.attempts.Ending.TheVariants.{Restart as anew, Overlaps as overlaps};
+ghost use Rattle.art_attempt.specs.declared.attempts.Part.{Part as PartOf};
 ghost use Rattle.art_attempt.specs.declared.attempts.Stage.TheVariants as stages;
+ghost use Rattle.art_find.specs.declared.findings.Position.{Position as PositionOf};
 ghost use Rattle.art_machine.specs.Acting.{goes_on};
 ghost use Rattle.art_machine.specs.Turns.{Spends};
 ghost use Rattle.art_machine.specs.declared.actions.Action.{Action as ActionOf};
@@ -73,15 +75,8 @@ impl Attempt {
     }
 
     /// Makes the steps of the part, as long as more than one turn is left.
-    pub(crate) fn part_all<S: EpochSteps>(
-        &mut self,
-        steps: &mut S,
-        room: &mut Room,
-        position: &Position,
-        part: Part,
-        left: &mut u32,
-    )
-        requires stage { self.old.stage ≡ stages.Placed position.now part }
+    pub(crate) fn part_all<S: EpochSteps>(&mut self, steps: &mut S, room: &mut Room, left: &mut u32)
+        requires stage { (t : PositionOf) × (p : PartOf) × (self.old.stage ≡ stages.Placed t p) }
         requires short { length room.old.row.key.items ≤ 64 }
         requires turn { 0 < left.old }
         requires fits { (u : View) × Fits (S.sizes steps.old) u self.old room.old (S.view steps.old) }
@@ -93,14 +88,13 @@ impl Attempt {
         ensures fits { (u : View) → Fits (S.sizes steps.old) u self.old room.old (S.view steps.old) →
             Fits (S.sizes steps.old) u self.new room.new (S.view steps.new) }
     {
+        let Stage::Placed { part, .. } = &self.stage else {
+            unreachable!()
+        };
         match part {
-            Part::Reserve { case, reserve } => {
-                self.supply_all(steps, room, position, case, reserve, left)
-            }
+            Part::Reserve { .. } => self.supply_all(steps, room, left),
             Part::Reading(_) => self.read_all(steps, room, left),
-            Part::Validate { case, validate } => {
-                self.validate_all(steps, room, position, case, validate, left)
-            }
+            Part::Validate { .. } => self.validate_all(steps, room, left),
             // a naming makes two steps at most
             Part::Naming { .. } => {}
         }

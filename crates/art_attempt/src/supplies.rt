@@ -13,6 +13,8 @@ ghost use Rattle.art_attempt.specs.Reserve.{ended_at as reserved_at};
 ghost use Rattle.art_attempt.specs.Validate.{BelowFits, ended_at as validated_at};
 ghost use Rattle.art_attempt.specs.declared.reserve.Reserve.{Reserve as ReserveOf};
 ghost use Rattle.art_attempt.specs.declared.reserve.Reserved.TheVariants.{Full as full};
+ghost use Rattle.art_attempt.specs.declared.validate.Validate.{Validate as ValidateOf};
+ghost use Rattle.art_attempt.specs.declared.validate.Validate.TheVariants.{Ended as validate_ended};
 ghost use Rattle.art_attempt.specs.declared.validate.Validated.TheVariants.{Changed as changed_cell};
 ghost use Rattle.art_machine.specs.Acting.{Answers as ActionAnswers, goes_on, telling};
 ghost use Rattle.art_machine.specs.Turns.{Spends};
@@ -98,12 +100,9 @@ impl Attempt {
         &mut self,
         steps: &mut S,
         room: &mut Room,
-        position: &Position,
-        case: Case,
-        reserve: Reserve,
         left: &mut u32,
     )
-        requires stage { self.old.stage ≡ stages.Placed position.now (parts.Reserve case reserve) }
+        requires stage { (t : PositionOf) × (c : CaseOf) × (s : ReserveOf) × (self.old.stage ≡ stages.Placed t (parts.Reserve c s)) }
         requires short { length room.old.row.key.items ≤ 64 }
         requires turn { 0 < left.old }
         requires fits { (u : View) × Fits (S.sizes steps.old) u self.old room.old (S.view steps.old) }
@@ -115,11 +114,22 @@ impl Attempt {
         ensures fits { (u : View) → Fits (S.sizes steps.old) u self.old room.old (S.view steps.old) →
             Fits (S.sizes steps.old) u self.new room.new (S.view steps.new) }
     {
+        let Stage::Placed { position, part } = &mut self.stage else {
+            unreachable!()
+        };
+        let Part::Reserve { case, reserve } = part else {
+            unreachable!()
+        };
         let demand = case.demand(room.sizes, &position.verdict);
         let key = room.row.key.as_slice();
-        let mut reserve = reserve;
         reserve.run(steps, &demand, key, room.row.value, &mut room.stock, left);
-        self.supply_on(room, position, case, reserve);
+        match reserve.ended() {
+            None => {}
+            Some(reserved) => {
+                let (position, case) = (*position, *case);
+                self.supplied(room, &position, case, reserved);
+            }
+        }
     }
 
     /// It goes on; or all is in hand, and the cells are validated; or a pool gave no number.
@@ -135,8 +145,23 @@ impl Attempt {
     {
         match reserve.ended() {
             None => self.go_on(position, Part::Reserve { case, reserve }),
-            Some(Reserved::Ready) => self.validate(room, position, case),
-            Some(Reserved::Full(pool)) => self.lack(room, position, pool),
+            Some(reserved) => self.supplied(room, position, case, reserved),
+        }
+    }
+
+    /// The reserve has ended so: all is in hand, and the cells are validated; or a pool gave no number.
+    fn supplied(&mut self, room: &Room, position: &Position, case: Case, reserved: Reserved)
+        requires at { StandsAt position.now self.old.stage }
+        ensures job { self.new.job ≡ self.old.job }
+        ensures not_anew { ended_at self.new ≢ Some anew }
+        ensures not_overlaps { ended_at self.new ≢ Some overlaps }
+        ensures free { is_free self.new ≡ true }
+        ensures fits { (z : Sizes) (u v : View) (s : ReserveOf) → IsRoom z room.now →
+            HasSupplies z u self.old.job position.now case s room.now v → reserved_at s ≡ Some reserved → Fits z u self.new room.now v }
+    {
+        match reserved {
+            Reserved::Ready => self.validate(room, position, case),
+            Reserved::Full(pool) => self.lack(room, position, pool),
         }
     }
 
@@ -230,33 +255,39 @@ impl Attempt {
         &mut self,
         steps: &mut S,
         room: &mut Room,
-        position: &Position,
-        case: Case,
-        validate: Validate,
         left: &mut u32,
     )
-        requires at { StandsAt position.now self.old.stage }
+        requires stage { (t : PositionOf) × (c : CaseOf) × (s : ValidateOf) × (self.old.stage ≡ stages.Placed t (parts.Validate c s)) }
         requires turn { 0 < left.old }
-        requires fits { (u : View) × IsRoom (S.sizes steps.old) room.old ×
-            IsValidating (S.sizes steps.old) u self.old.job position.now case validate room.old (S.view steps.old) }
+        requires fits { (u : View) × Fits (S.sizes steps.old) u self.old room.old (S.view steps.old) }
         ensures only { S.only steps.old steps.new }
         ensures kept { IsSameTry self.old self.new room.old room.new }
         ensures free { is_free self.new ≡ true }
         ensures not_overlaps { ended_at self.new ≢ Some overlaps }
         ensures turns { Spends (S.view steps.old) (S.view steps.new) left.old left.new }
-        ensures fits { (u : View) → IsRoom (S.sizes steps.old) room.old →
-            IsValidating (S.sizes steps.old) u self.old.job position.now case validate room.old (S.view steps.old) →
+        ensures fits { (u : View) → Fits (S.sizes steps.old) u self.old room.old (S.view steps.old) →
             Fits (S.sizes steps.old) u self.new room.new (S.view steps.new) }
     {
+        let Stage::Placed { position, part } = &mut self.stage else {
+            unreachable!()
+        };
+        let Part::Validate { case, validate } = part else {
+            unreachable!()
+        };
         let cells = case.cells(&position.verdict);
         let Room {
             read_set,
             lower,
             ..
         } = room;
-        let mut validate = validate;
         validate.run(steps, position, &cells, read_set, lower, left);
-        self.validate_on(room, position, case, validate);
+        match validate.ended() {
+            None => {}
+            Some(validated) => {
+                let (position, case) = (*position, *case);
+                self.validated(room, &position, case, validated);
+            }
+        }
     }
 
     /// It goes on; or all that is written was seen, and the change is planned; or a cell was changed.
@@ -274,8 +305,24 @@ impl Attempt {
     {
         match validate.ended() {
             None => self.go_on(position, Part::Validate { case, validate }),
-            Some(Validated::Changed) => self.stage = Stage::Ended(Ending::Restart),
-            Some(Validated::Unchanged) => self.plan(room, position, case),
+            Some(validated) => self.validated(room, position, case, validated),
+        }
+    }
+
+    /// The validation has ended so: all that is written was seen, and the change is planned; or a cell was changed.
+    fn validated(&mut self, room: &mut Room, position: &Position, case: Case, validated: Validated)
+        requires { (z : Sizes) × (u : View) × (v : View) × IsRoom z room.old ×
+            IsValidating z u self.old.job position.now case (validate_ended validated) room.old v }
+        ensures kept { IsSameTry self.old self.new room.old room.new }
+        ensures anew { ended_at self.new ≡ Some anew → validated ≡ changed_cell }
+        ensures not_overlaps { ended_at self.new ≢ Some overlaps }
+        ensures free { is_free self.new ≡ true }
+        ensures fits { (z : Sizes) (u v : View) → IsRoom z room.old →
+            IsValidating z u self.old.job position.now case (validate_ended validated) room.old v → Fits z u self.new room.new v }
+    {
+        match validated {
+            Validated::Changed => self.stage = Stage::Ended(Ending::Restart),
+            Validated::Unchanged => self.plan(room, position, case),
         }
     }
 }
