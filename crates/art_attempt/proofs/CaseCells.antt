@@ -139,6 +139,15 @@ module _ (z : Sizes) (u : View) (j : Job) (t : Position) (c : Case) (s : Validat
         fits = fits;
       }
 
+  -- by the cells that it goes by
+  module _ (p : Cells) (cells : p ≡ o) where
+    pub may_validate : validate.Fits z k t p s r.read_set r.lower h.early v
+    may_validate = subst (λ (p : Cells). validate.Fits z k t p s r.read_set r.lower h.early v) (sym cells) h.fits
+
+    pub is_validating_on : (w : View) (next : Validate) (read_set : ReadSet) (lower : List (Option ℕ)) → v.steps ≤ w.steps → StayFound v w → NodeStays t r.read_set read_set → validate.Fits z k t p next read_set lower h.early w
+        → IsValidating z u j t c next (record r { read_set = read_set; lower = lower }) w
+    is_validating_on w next read_set lower more found node fits = validating_on w next read_set lower more found node (subst (λ (p : Cells). validate.Fits z k t p next read_set lower h.early w) cells fits)
+
   pub validating_so : EndsWithin z u 22500 r v
   validating_so = reading_so z u h.early h.base r v h.later h.has (validate_reads z k t o s r.read_set r.lower h.early v h.fits.stage) 22500
       (λ limited. let spent = h.spent limited in let steps = h.fits.steps in let more = h.later.failures in omega (arith, spent, steps, more))

@@ -1,11 +1,11 @@
 -- Numbers come into the hand, or one is not found.
-use Rattle.std.proofs.Common.{◌≡◌, Some, inr, refl, sym, ap, ◌∙◌, subst, arith}
+use Rattle.std.proofs.Common.{◌≡◌, ℕ, List, Some, inr, refl, sym, ap, ◌∙◌, subst, arith}
 use Rattle.std.proofs.lemmas.Option.{same_Some}
 use Rattle.art_attempt.proofs.Chosen.{case_comes, comes_insert, no_smaller, wants_same}
 use Rattle.art_attempt.proofs.LastCheck.{check_stays, stood_stays}
 use Rattle.art_attempt.proofs.Spent.{few_looks}
 use Rattle.art_attempt.proofs.Tries.{standing_takes, still_takes}
-use Rattle.art_attempt.specs.Attempts.{EndsWithin, HasSupplies, IsFull, IsKnown, WantsNumbers}
+use Rattle.art_attempt.specs.Attempts.{EndsWithin, HasSupplies, IsFull, IsKnown, IsRoom, WantsNumbers}
 use Rattle.art_attempt.specs.Cases.{ComesThere, IsCaseOf, demand_of}
 use Rattle.art_attempt.specs.Trying.{IsLater}
 use Rattle.art_attempt.specs.declared.attempts.Job.{Job}
@@ -19,6 +19,7 @@ use Rattle.art_find.specs.Findings.{IsStanding}
 use Rattle.art_find.specs.declared.findings.Position.{Position}
 use Rattle.art_attempt.specs.Reserve as reserve
 use Rattle.art_attempt.specs.Reserve.{HasAll, HasNone}
+use Rattle.art_attempt.specs.declared.reserve.Demand.{Demand}
 use Rattle.art_attempt.specs.declared.reserve.Reserved.{Reserved}
 use Rattle.art_attempt.specs.declared.reserve.Reserved.TheVariants.{Ready, Full}
 use Rattle.art_attempt.specs.declared.reserve.Reserve.{Reserve}
@@ -116,3 +117,18 @@ module _ (z : Sizes) (u : View) (j : Job) (t : Position) (c : Case) (q : Reserve
       by (MergeLeaf other) of wants none = absurd wants
       by (MergeNode l) of wants none = absurd wants
       by Torn of wants none = absurd wants
+
+-- ---- by the demand and the key that it goes by
+
+module _ (z : Sizes) (u : View) (j : Job) (t : Position) (c : Case) (q : Reserve) (r : Room) (v : View) (room : IsRoom z r) (h : HasSupplies z u j t c q r v) (d : Demand) (k : List ℕ) (wanted : d ≡ demand_of r.sizes c t.verdict) (key : k ≡ r.row.key.items) where
+  same : demand_of z c t.verdict ≡ d
+  same = sym (wanted ∙ ap (λ (y : Sizes). demand_of y c t.verdict) room.sizes)
+
+  pub may_supply : reserve.Fits z d k r.row.value q r.stock h.early v
+  may_supply = subst (λ (l : List ℕ). reserve.Fits z d l r.row.value q r.stock h.early v) (sym key)
+      (subst (λ (x : Demand). reserve.Fits z x r.row.key.items r.row.value q r.stock h.early v) same h.fits)
+
+  pub has_supplied : (next : Reserve) (stock : Stock) (w : View) → reserve.Fits z d k r.row.value next stock h.early w → HasSupplies z u j t c next (record r { stock = stock }) w
+  has_supplied next stock w fits = supplies_on z u j t c q r v h next stock w
+      (subst (λ (x : Demand). reserve.Fits z x r.row.key.items r.row.value next stock h.early w) (sym same)
+      (subst (λ (l : List ℕ). reserve.Fits z d l r.row.value next stock h.early w) key fits))

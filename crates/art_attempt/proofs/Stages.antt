@@ -1,13 +1,15 @@
 -- What an attempt that fits knows at the stage where it stands; what stays of an attempt stays on.
-use Rattle.std.proofs.Common.{◌≡◌, ◌∙◌, ap, sym, subst}
+use Rattle.std.proofs.Common.{◌≡◌, ◌∙◌, Option, ap, sym, subst}
 use Rattle.art_attempt.specs.declared.rooms.Room.{Room}
-use Rattle.art_attempt.specs.Attempts.{Fits, HasMade, IsFinding, IsRoom, IsSameTry, PartFits, StageFits, deed_at, deed_by, found_in, settled_by}
+use Rattle.art_attempt.specs.Attempts.{Fits, HasMade, IsFinding, IsRoom, IsSameTry, PartFits, StageFits, asks, asks_at, deed_at, deed_by, found_in, part_asks, settled_by}
+use Rattle.art_attempt.specs.Parts.{PartKnows}
 use Rattle.art_attempt.specs.declared.attempts.Attempt.{Attempt}
 use Rattle.art_attempt.specs.declared.attempts.Stage.{Stage}
 use Rattle.art_attempt.specs.declared.attempts.Stage.TheVariants as stage
 use Rattle.art_attempt.specs.declared.attempts.Part.{Part}
 use Rattle.art_find.specs.declared.findings.Finding.{Finding}
 use Rattle.art_find.specs.declared.findings.Position.{Position}
+use Rattle.art_machine.specs.declared.actions.Action.{Action}
 use Rattle.art_make.specs.declared.apply.Apply.{Apply}
 use Rattle.art_step.specs.declared.views.Sizes.{Sizes}
 use Rattle.art_step.specs.declared.views.View.{View}
@@ -30,8 +32,26 @@ module _ (z : Sizes) (u : View) (m : Attempt) (r : Room) (v : View) where
     pub at_part : PartFits z u m.job t q r v
     at_part = subst (λ (o : Part). PartFits z u m.job t o r v) is (has_part t p at fits)
 
+  -- there it stays as long as that goes on
+  module _ (t : Position) (p q : Part) (at : m.stage ≡ stage.Placed t p) (is : p ≡ q) where
+    pub is_at : m.stage ≡ stage.Placed t q
+    is_at = at ∙ ap (λ (o : Part). stage.Placed t o) is
+
+    pub knows_at : PartKnows z u m.stage m.job r v → PartKnows z u (stage.Placed t q) m.job r v
+    knows_at h = subst (λ (s : Stage). PartKnows z u s m.job r v) is_at h
+
+    pub stays_at : IsRoom z r → PartFits z u m.job t q r v → Fits z u m r v
+    stays_at room fits = record { room = room; stage = subst (λ (s : Stage). StageFits z u s m r v) (sym is_at) fits }
+
   pub has_made : (s : Apply) → m.stage ≡ stage.Apply s → Fits z u m r v → HasMade z u m.job s r v
   has_made s is fits = (at_stage (stage.Apply s) is fits).0
+
+-- and asks what that does
+pub asked_part : (m : Attempt) (r : Room) (t : Position) (p q : Part) → m.stage ≡ stage.Placed t p → p ≡ q → (o : Option Action) → asks m r ≡ o → part_asks q t r ≡ o
+asked_part m r t p q at is o asked = sym (ap (λ (p : Part). part_asks p t r) is) ∙ (sym (ap (λ (s : Stage). asks_at s m r) at) ∙ asked)
+
+pub asks_part : (m : Attempt) (r : Room) (t : Position) (p q : Part) → m.stage ≡ stage.Placed t p → p ≡ q → (o : Option Action) → part_asks q t r ≡ o → asks m r ≡ o
+asks_part m r t p q at is o asked = ap (λ (s : Stage). asks_at s m r) at ∙ (ap (λ (p : Part). part_asks p t r) is ∙ asked)
 
 -- it goes on where the key stands
 module _ (z : Sizes) (u : View) (m n : Attempt) (t : Position) (p : Part) (r : Room) (v : View) where

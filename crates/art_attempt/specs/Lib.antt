@@ -7,6 +7,7 @@ pub mod Asking
 pub mod Attempts
 pub mod Cases
 pub mod Naming
+pub mod Parts
 pub mod Reserve
 pub mod Rooms
 pub mod Trying

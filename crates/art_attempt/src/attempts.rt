@@ -143,7 +143,7 @@ impl Attempt {
     {
         match self.stage {
             Stage::Finding(finding) => self.find_told(room, finding, answer),
-            Stage::Placed { position, part } => self.part_told(room, &position, part, answer),
+            Stage::Placed { .. } => self.part_told(room, answer),
             Stage::Apply(apply) => self.make_told(room, apply, answer),
             Stage::Ended(_) => {}
         }

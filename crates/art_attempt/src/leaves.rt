@@ -1,13 +1,18 @@
 //! How an attempt tells what goes with a leaf, by the words of the node that names it.
 ghost use Rattle.std.specs.Prelude.{◌≡◌, ◌≢◌, ℕ, ◌+◌, ◌<◌, ◌≤◌, None, Some, true, false};
 ghost use Rattle.art_attempt.specs.Attempts.{EndsWithin, Fits, IsNaming, IsReadingOn, IsRoom, IsSameTry, deed_at, ended_at, is_free};
-ghost use Rattle.art_attempt.specs.Attempts.{StandsAt, naming_asks, reading_asks};
+ghost use Rattle.art_attempt.specs.Attempts.{StandsAt, asks, naming_asks, reading_asks};
 ghost use Rattle.art_attempt.specs.Cases.{HasLeaf, LeavesOther};
+ghost use Rattle.art_attempt.specs.Parts.{PartKnows};
 ghost use Rattle.art_attempt.specs.declared.attempts.Ending.TheVariants.{Restart as anew, Overlaps as overlaps};
 ghost use Rattle.art_attempt.specs.declared.attempts.Job.TheVariants as jobs;
+ghost use Rattle.art_attempt.specs.declared.attempts.Part.TheVariants as parts;
+ghost use Rattle.art_attempt.specs.declared.attempts.Stage.TheVariants as stages;
 ghost use Rattle.art_cell.specs.declared.cells.Link.TheVariants.{Node as node_link};
 ghost use Rattle.art_cell.specs.declared.cells.Node.{Node as NodeOf};
 ghost use Rattle.art_find.specs.Findings.{IsStanding};
+ghost use Rattle.art_find.specs.declared.findings.Position.{Position as PositionOf};
+ghost use Rattle.art_find.specs.declared.rereadings.Rereading.{Rereading as RereadingOf};
 ghost use Rattle.art_attempt.specs.Naming.{KnowsHere, ended_at as named_at};
 ghost use Rattle.art_attempt.specs.declared.naming.Named.TheVariants.{Changed as changed_name};
 ghost use Rattle.art_attempt.specs.declared.naming.Naming.{Naming as NamingOf};
@@ -61,37 +66,44 @@ impl Attempt {
         match loss(position, &room.read_set) {
             Loss::Leaf => self.validate(room, position, Case::DropLeaf),
             Loss::Shrinks(layout) => self.supply(room, position, Case::Shrink(layout)),
-            Loss::Merges => self.read_on(room, position, Rereading::new(room.read_set.node())),
+            Loss::Merges => {
+                let rereading = Rereading::new(room.read_set.node());
+                self.go_on(position, Part::Reading(rereading));
+                self.read_on(room);
+            }
         }
     }
 
     /// A word of the node was read. Where its header was not known before, it is now, and may tell that the node stays, or shrinks.
-    pub(crate) fn read_told(
-        &mut self,
-        room: &mut Room,
-        position: &Position,
-        rereading: Rereading,
-        answer: Answer,
-    )
-        requires at { StandsAt position.now self.old.stage }
-        requires more { rereading.place < size_of position.now.stamp.cell }
-        requires told { (z : Sizes) × (u : View) × (v : View) × (w : View) × (asked : ActionOf) × IsRoom z room.old ×
-            IsReadingOn z u self.old.job position.now rereading room.old v × (reading_asks position.now rereading ≡ Some asked) ×
-            ActionAnswers z (telling (deed_at self.old room.old)) asked answer v w }
+    pub(crate) fn read_told(&mut self, room: &mut Room, answer: Answer)
+        requires stage { (t : PositionOf) × (q : RereadingOf) × (self.old.stage ≡ stages.Placed t (parts.Reading q)) }
+        requires told { (z : Sizes) × (u : View) × (v : View) × (w : View) × (asked : ActionOf) × Fits z u self.old room.old v ×
+            (asks self.old room.old ≡ Some asked) × ActionAnswers z (telling (deed_at self.old room.old)) asked answer v w }
         ensures kept { IsSameTry self.old self.new room.old room.new }
         ensures not_anew { ended_at self.new ≢ Some anew }
         ensures not_overlaps { ended_at self.new ≢ Some overlaps }
         ensures free { is_free self.new ≡ true }
-        ensures fits { (z : Sizes) (u v w : View) (asked : ActionOf) → IsRoom z room.old →
-            IsReadingOn z u self.old.job position.now rereading room.old v → reading_asks position.now rereading ≡ Some asked →
-            ActionAnswers z (telling (deed_at self.old room.old)) asked answer v w → Fits z u self.new room.new w }
+        ensures fits { (z : Sizes) (u v w : View) (asked : ActionOf) → Fits z u self.old room.old v →
+            asks self.old room.old ≡ Some asked → ActionAnswers z (telling (deed_at self.old room.old)) asked answer v w →
+            Fits z u self.new room.new w }
     {
-        let mut rereading = rereading;
-        room.read_set.reread_node(&mut rereading, answer.found());
+        let Stage::Placed { position, part } = &mut self.stage else {
+            unreachable!()
+        };
+        let Part::Reading(rereading) = part else {
+            unreachable!()
+        };
+        room.read_set.reread_node(rereading, answer.found());
         match loss(position, &room.read_set) {
-            Loss::Leaf => self.validate(room, position, Case::DropLeaf),
-            Loss::Shrinks(layout) => self.supply(room, position, Case::Shrink(layout)),
-            Loss::Merges => self.read_on(room, position, rereading),
+            Loss::Leaf => {
+                let position = *position;
+                self.validate(room, &position, Case::DropLeaf);
+            }
+            Loss::Shrinks(layout) => {
+                let position = *position;
+                self.supply(room, &position, Case::Shrink(layout));
+            }
+            Loss::Merges => self.read_on(room),
         }
     }
 
@@ -112,7 +124,7 @@ impl Attempt {
             Fits (S.sizes steps.old) u self.new room.new (S.view steps.new) }
     {
         while *left > 1 {
-            let Stage::Placed { position, part } = self.stage else {
+            let Stage::Placed { position, part } = &self.stage else {
                 return;
             };
             let Part::Reading(rereading) = part else {
@@ -125,24 +137,32 @@ impl Attempt {
                 return;
             };
             *left -= 1;
-            self.read_told(room, &position, rereading, answer);
+            self.read_told(room, answer);
         }
     }
 
     /// The node is read on, or all its words are known: it goes, and gives way to its other child.
-    fn read_on(&mut self, room: &Room, position: &Position, rereading: Rereading)
-        requires at { StandsAt position.now self.old.stage }
-        requires leaf { HasLeaf position.now room.now }
+    fn read_on(&mut self, room: &Room)
+        requires stage { (t : PositionOf) × (q : RereadingOf) × (self.old.stage ≡ stages.Placed t (parts.Reading q)) × HasLeaf t room.now }
         ensures job { self.new.job ≡ self.old.job }
         ensures not_anew { ended_at self.new ≢ Some anew }
         ensures not_overlaps { ended_at self.new ≢ Some overlaps }
         ensures free { is_free self.new ≡ true }
-        ensures fits { (z : Sizes) (u v : View) → IsRoom z room.now → IsReadingOn z u self.old.job position.now rereading room.now v →
+        ensures fits { (z : Sizes) (u v : View) → IsRoom z room.now → PartKnows z u self.old.stage self.old.job room.now v →
             Fits z u self.new room.now v }
     {
+        let Stage::Placed { position, part } = &self.stage else {
+            unreachable!()
+        };
+        let Part::Reading(rereading) = part else {
+            unreachable!()
+        };
         match rereading.next(position.stamp) {
-            Some(_) => self.go_on(position, Part::Reading(rereading)),
-            None => self.merge(room, position),
+            Some(_) => {}
+            None => {
+                let position = *position;
+                self.merge(room, &position);
+            }
         }
     }
 
@@ -196,45 +216,32 @@ impl Attempt {
     }
 
     /// The node below was stamped, or the one that names it was checked.
-    pub(crate) fn name_told(
-        &mut self,
-        room: &mut Room,
-        position: &Position,
-        byte: u8,
-        node: Node,
-        naming: Naming,
-        answer: Answer,
-    )
-        requires at { StandsAt position.now self.old.stage }
-        requires told { (z : Sizes) × (u : View) × (v : View) × (w : View) × (asked : ActionOf) × IsRoom z room.old ×
-            IsNaming z u self.old.job position.now byte node naming room.old v × (naming_asks position.now naming ≡ Some asked) ×
-            ActionAnswers z (telling (deed_at self.old room.old)) asked answer v w }
+    pub(crate) fn name_told(&mut self, room: &mut Room, answer: Answer)
+        requires stage { (t : PositionOf) × (b : ℕ) × (n : NodeOf) × (s : NamingOf) ×
+            (self.old.stage ≡ stages.Placed t (parts.Naming b n s)) }
+        requires told { (z : Sizes) × (u : View) × (v : View) × (w : View) × (asked : ActionOf) × Fits z u self.old room.old v ×
+            (asks self.old room.old ≡ Some asked) × ActionAnswers z (telling (deed_at self.old room.old)) asked answer v w }
         ensures kept { IsSameTry self.old self.new room.old room.new }
         ensures anew { ended_at self.new ≡ Some anew → goes_on answer ≡ false }
         ensures not_overlaps { ended_at self.new ≢ Some overlaps }
         ensures free { is_free self.new ≡ true }
-        ensures fits { (z : Sizes) (u v w : View) (asked : ActionOf) → IsRoom z room.old →
-            IsNaming z u self.old.job position.now byte node naming room.old v → naming_asks position.now naming ≡ Some asked →
-            ActionAnswers z (telling (deed_at self.old room.old)) asked answer v w → Fits z u self.new room.new w }
+        ensures fits { (z : Sizes) (u v w : View) (asked : ActionOf) → Fits z u self.old room.old v →
+            asks self.old room.old ≡ Some asked → ActionAnswers z (telling (deed_at self.old room.old)) asked answer v w →
+            Fits z u self.new room.new w }
     {
-        let mut naming = naming;
+        let Stage::Placed { position, part } = &mut self.stage else {
+            unreachable!()
+        };
+        let Part::Naming { byte, node, naming } = part else {
+            unreachable!()
+        };
         naming.told(&mut room.lower, answer);
-        self.name_on(room, position, byte, node, naming);
-    }
-
-    /// It goes on; or the node below is known by its stamp, and the cells are validated; or a cell was changed.
-    fn name_on(&mut self, room: &Room, position: &Position, byte: u8, node: Node, naming: Naming)
-        requires at { StandsAt position.now self.old.stage }
-        ensures job { self.new.job ≡ self.old.job }
-        ensures anew { ended_at self.new ≡ Some anew → named_at naming ≡ Some changed_name }
-        ensures not_overlaps { ended_at self.new ≢ Some overlaps }
-        ensures free { is_free self.new ≡ true }
-        ensures fits { (z : Sizes) (u v : View) → IsRoom z room.now →
-            IsNaming z u self.old.job position.now byte node naming room.now v → Fits z u self.new room.now v }
-    {
         match naming.ended() {
-            None => self.go_on(position, Part::Naming { byte, node, naming }),
-            Some(named) => self.named(room, position, byte, node, named),
+            None => {}
+            Some(named) => {
+                let (position, byte, node) = (*position, *byte, *node);
+                self.named(room, &position, byte, node, named);
+            }
         }
     }
 

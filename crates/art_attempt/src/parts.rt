@@ -1,6 +1,6 @@
 //! What an attempt does where its key stands, part by part, before a change is made.
 ghost use Rattle.std.specs.Prelude.{◌≡◌, ◌≢◌, ℕ, ◌+◌, ◌<◌, ◌≤◌, length, None, Some, true, false};
-ghost use Rattle.art_attempt.specs.Attempts.{Fits, IsRoom, IsSameTry, PartFits, StandsAt, deed_at, ended_at, is_free, part_asks};
+ghost use Rattle.art_attempt.specs.Attempts.{Fits, IsSameTry, PartFits, StandsAt, asks, deed_at, ended_at, is_free, part_asks};
 ghost use Rattle.art_attempt.specs.declared.attempts.Ending.TheVariants.{Restart as anew, Overlaps as overlaps};
 ghost use Rattle.art_attempt.specs.declared.attempts.Part.{Part as PartOf};
 ghost use Rattle.art_attempt.specs.declared.attempts.Stage.TheVariants as stages;
@@ -41,36 +41,26 @@ impl Attempt {
 
     /// A step of the part was made.
     #[inline(always)]
-    pub(crate) fn part_told(
-        &mut self,
-        room: &mut Room,
-        position: &Position,
-        part: Part,
-        answer: Answer,
-    )
-        requires at { StandsAt position.now self.old.stage }
-        requires told { (z : Sizes) × (u : View) × (v : View) × (w : View) × (asked : ActionOf) × IsRoom z room.old ×
-            PartFits z u self.old.job position.now part room.old v × (part_asks part position.now room.old ≡ Some asked) ×
-            Answers z (deed_at self.old room.old) room.old.change asked answer v w }
+    pub(crate) fn part_told(&mut self, room: &mut Room, answer: Answer)
+        requires stage { (t : PositionOf) × (p : PartOf) × (self.old.stage ≡ stages.Placed t p) }
+        requires told { (z : Sizes) × (u : View) × (v : View) × (w : View) × (asked : ActionOf) × Fits z u self.old room.old v ×
+            (asks self.old room.old ≡ Some asked) × Answers z (deed_at self.old room.old) room.old.change asked answer v w }
         ensures kept { IsSameTry self.old self.new room.old room.new }
         ensures anew { ended_at self.new ≡ Some anew → goes_on answer ≡ false }
         ensures not_overlaps { ended_at self.new ≢ Some overlaps }
         ensures free { is_free self.new ≡ true }
-        ensures fits { (z : Sizes) (u v w : View) (asked : ActionOf) → IsRoom z room.old →
-            PartFits z u self.old.job position.now part room.old v → part_asks part position.now room.old ≡ Some asked →
-            Answers z (deed_at self.old room.old) room.old.change asked answer v w → Fits z u self.new room.new w }
+        ensures fits { (z : Sizes) (u v w : View) (asked : ActionOf) → Fits z u self.old room.old v →
+            asks self.old room.old ≡ Some asked → Answers z (deed_at self.old room.old) room.old.change asked answer v w →
+            Fits z u self.new room.new w }
     {
+        let Stage::Placed { part, .. } = &self.stage else {
+            unreachable!()
+        };
         match part {
-            Part::Reserve { case, reserve } => {
-                self.supply_told(room, position, case, reserve, answer)
-            }
-            Part::Reading(rereading) => self.read_told(room, position, rereading, answer),
-            Part::Naming { byte, node, naming } => self.name_told(
-                room, position, byte, node, naming, answer,
-            ),
-            Part::Validate { case, validate } => {
-                self.validate_told(room, position, case, validate, answer)
-            }
+            Part::Reserve { .. } => self.supply_told(room, answer),
+            Part::Reading(_) => self.read_told(room, answer),
+            Part::Naming { .. } => self.name_told(room, answer),
+            Part::Validate { .. } => self.validate_told(room, answer),
         }
     }
 

@@ -1,8 +1,9 @@
 //! How an attempt brings numbers into the hand, and validates the cells that it writes.
 ghost use Rattle.std.specs.Prelude.{◌≡◌, ◌≢◌, ℕ, ◌+◌, ◌<◌, ◌≤◌, length, None, Some, true, false};
 ghost use Rattle.art_attempt.specs.Attempts.{EndsWithin, Fits, HasSupplies, IsKnown, IsRoom, IsSameTry, IsValidating, StandsAt, WantsNumbers, deed_at};
-ghost use Rattle.art_attempt.specs.Attempts.{ended_at, is_free, supply_asks, validate_asks};
+ghost use Rattle.art_attempt.specs.Attempts.{asks, ended_at, is_free, supply_asks, validate_asks};
 ghost use Rattle.art_attempt.specs.Cases.{IsCaseOf, cells_of};
+ghost use Rattle.art_attempt.specs.Parts.{PartKnows, validated_in};
 ghost use Rattle.art_attempt.specs.declared.attempts.Ending.TheVariants.{Restart as anew, Overlaps as overlaps};
 ghost use Rattle.art_attempt.specs.declared.attempts.Part.TheVariants as parts;
 ghost use Rattle.art_attempt.specs.declared.attempts.Stage.TheVariants as stages;
@@ -64,35 +65,34 @@ impl Attempt {
     {
         let demand = case.demand(room.sizes, &position.verdict);
         let reserve = Reserve::new(&demand, &mut room.stock);
-        self.supply_on(room, position, case, reserve);
+        match reserve.ended() {
+            None => self.go_on(position, Part::Reserve { case, reserve }),
+            Some(reserved) => self.supplied(room, position, case, reserved),
+        }
     }
 
     /// A number was sought, or a word of the leaf written.
     #[inline(always)]
-    pub(crate) fn supply_told(
-        &mut self,
-        room: &mut Room,
-        position: &Position,
-        case: Case,
-        reserve: Reserve,
-        answer: Answer,
-    )
-        requires at { StandsAt position.now self.old.stage }
-        requires told { (z : Sizes) × (u : View) × (v : View) × (w : View) × (asked : ActionOf) × IsRoom z room.old ×
-            HasSupplies z u self.old.job position.now case reserve room.old v × (supply_asks reserve room.old ≡ Some asked) ×
-            ActionAnswers z None asked answer v w }
+    pub(crate) fn supply_told(&mut self, room: &mut Room, answer: Answer)
+        requires stage { (t : PositionOf) × (c : CaseOf) × (s : ReserveOf) × (self.old.stage ≡ stages.Placed t (parts.Reserve c s)) }
+        requires told { (z : Sizes) × (u : View) × (v : View) × (w : View) × (asked : ActionOf) × Fits z u self.old room.old v ×
+            (asks self.old room.old ≡ Some asked) × ActionAnswers z None asked answer v w }
         ensures kept { IsSameTry self.old self.new room.old room.new }
         ensures not_anew { ended_at self.new ≢ Some anew }
         ensures not_overlaps { ended_at self.new ≢ Some overlaps }
         ensures free { is_free self.new ≡ true }
-        ensures fits { (z : Sizes) (u v w : View) (asked : ActionOf) → IsRoom z room.old →
-            HasSupplies z u self.old.job position.now case reserve room.old v → supply_asks reserve room.old ≡ Some asked →
-            ActionAnswers z None asked answer v w → Fits z u self.new room.new w }
+        ensures fits { (z : Sizes) (u v w : View) (asked : ActionOf) → Fits z u self.old room.old v →
+            asks self.old room.old ≡ Some asked → ActionAnswers z None asked answer v w → Fits z u self.new room.new w }
     {
+        let Stage::Placed { position, part } = &mut self.stage else {
+            unreachable!()
+        };
+        let Part::Reserve { case, reserve } = part else {
+            unreachable!()
+        };
         let demand = case.demand(room.sizes, &position.verdict);
-        let mut reserve = reserve;
         reserve.told(&demand, &mut room.stock, answer);
-        self.supply_on(room, position, case, reserve);
+        self.supply_on(room);
     }
 
     /// Brings numbers into the hand, as long as more than one turn is left.
@@ -123,30 +123,31 @@ impl Attempt {
         let demand = case.demand(room.sizes, &position.verdict);
         let key = room.row.key.as_slice();
         reserve.run(steps, &demand, key, room.row.value, &mut room.stock, left);
-        match reserve.ended() {
-            None => {}
-            Some(reserved) => {
-                let (position, case) = (*position, *case);
-                self.supplied(room, &position, case, reserved);
-            }
-        }
+        self.supply_on(room);
     }
 
     /// It goes on; or all is in hand, and the cells are validated; or a pool gave no number.
     #[inline(always)]
-    fn supply_on(&mut self, room: &Room, position: &Position, case: Case, reserve: Reserve)
-        requires at { StandsAt position.now self.old.stage }
+    fn supply_on(&mut self, room: &Room)
+        requires stage { (t : PositionOf) × (c : CaseOf) × (s : ReserveOf) × (self.old.stage ≡ stages.Placed t (parts.Reserve c s)) }
         ensures job { self.new.job ≡ self.old.job }
         ensures not_anew { ended_at self.new ≢ Some anew }
         ensures not_overlaps { ended_at self.new ≢ Some overlaps }
         ensures free { is_free self.new ≡ true }
-        ensures fits { (z : Sizes) (u v : View) → IsRoom z room.now →
-            HasSupplies z u self.old.job position.now case reserve room.now v → Fits z u self.new room.now v }
+        ensures fits { (z : Sizes) (u v : View) → IsRoom z room.now → PartKnows z u self.old.stage self.old.job room.now v →
+            Fits z u self.new room.now v }
     {
-        match reserve.ended() {
-            None => self.go_on(position, Part::Reserve { case, reserve }),
-            Some(reserved) => self.supplied(room, position, case, reserved),
-        }
+        let Stage::Placed { position, part } = &self.stage else {
+            unreachable!()
+        };
+        let Part::Reserve { case, reserve } = part else {
+            unreachable!()
+        };
+        let Some(reserved) = reserve.ended() else {
+            return;
+        };
+        let (position, case) = (*position, *case);
+        self.supplied(room, &position, case, reserved);
     }
 
     /// The reserve has ended so: all is in hand, and the cells are validated; or a pool gave no number.
@@ -217,37 +218,32 @@ impl Attempt {
     }
 
     /// A word was read, or a cell was checked.
-    pub(crate) fn validate_told(
-        &mut self,
-        room: &mut Room,
-        position: &Position,
-        case: Case,
-        validate: Validate,
-        answer: Answer,
-    )
-        requires at { StandsAt position.now self.old.stage }
-        requires told { (z : Sizes) × (u : View) × (v : View) × (w : View) × (asked : ActionOf) × IsRoom z room.old ×
-            IsValidating z u self.old.job position.now case validate room.old v ×
-            (validate_asks position.now case validate ≡ Some asked) ×
-            ActionAnswers z (telling (deed_at self.old room.old)) asked answer v w }
+    pub(crate) fn validate_told(&mut self, room: &mut Room, answer: Answer)
+        requires stage { (t : PositionOf) × (c : CaseOf) × (s : ValidateOf) × (self.old.stage ≡ stages.Placed t (parts.Validate c s)) }
+        requires told { (z : Sizes) × (u : View) × (v : View) × (w : View) × (asked : ActionOf) × Fits z u self.old room.old v ×
+            (asks self.old room.old ≡ Some asked) × ActionAnswers z (telling (deed_at self.old room.old)) asked answer v w }
         ensures kept { IsSameTry self.old self.new room.old room.new }
         ensures anew { ended_at self.new ≡ Some anew → goes_on answer ≡ false }
         ensures not_overlaps { ended_at self.new ≢ Some overlaps }
         ensures free { is_free self.new ≡ true }
-        ensures fits { (z : Sizes) (u v w : View) (asked : ActionOf) → IsRoom z room.old →
-            IsValidating z u self.old.job position.now case validate room.old v →
-            validate_asks position.now case validate ≡ Some asked →
-            ActionAnswers z (telling (deed_at self.old room.old)) asked answer v w → Fits z u self.new room.new w }
+        ensures fits { (z : Sizes) (u v w : View) (asked : ActionOf) → Fits z u self.old room.old v →
+            asks self.old room.old ≡ Some asked → ActionAnswers z (telling (deed_at self.old room.old)) asked answer v w →
+            Fits z u self.new room.new w }
     {
+        let Stage::Placed { position, part } = &mut self.stage else {
+            unreachable!()
+        };
+        let Part::Validate { case, validate } = part else {
+            unreachable!()
+        };
         let cells = case.cells(&position.verdict);
         let Room {
             read_set,
             lower,
             ..
         } = room;
-        let mut validate = validate;
         validate.told(position, &cells, read_set, lower, answer);
-        self.validate_on(room, position, case, validate);
+        self.validate_on(room);
     }
 
     /// Reads and checks the cells, as long as more than one turn is left.
@@ -281,32 +277,33 @@ impl Attempt {
             ..
         } = room;
         validate.run(steps, position, &cells, read_set, lower, left);
-        match validate.ended() {
-            None => {}
-            Some(validated) => {
-                let (position, case) = (*position, *case);
-                self.validated(room, &position, case, validated);
-            }
-        }
+        self.validate_on(room);
     }
 
     /// It goes on; or all that is written was seen, and the change is planned; or a cell was changed.
     #[inline(always)]
-    fn validate_on(&mut self, room: &mut Room, position: &Position, case: Case, validate: Validate)
-        requires at { StandsAt position.now self.old.stage }
+    fn validate_on(&mut self, room: &mut Room)
+        requires stage { (t : PositionOf) × (c : CaseOf) × (s : ValidateOf) × (self.old.stage ≡ stages.Placed t (parts.Validate c s)) }
         requires validating { (z : Sizes) × (u : View) × (v : View) × IsRoom z room.old ×
-            IsValidating z u self.old.job position.now case validate room.old v }
+            PartKnows z u self.old.stage self.old.job room.old v }
         ensures kept { IsSameTry self.old self.new room.old room.new }
-        ensures anew { ended_at self.new ≡ Some anew → validated_at validate ≡ Some changed_cell }
+        ensures anew { ended_at self.new ≡ Some anew → validated_in self.old.stage ≡ Some changed_cell }
         ensures not_overlaps { ended_at self.new ≢ Some overlaps }
         ensures free { is_free self.new ≡ true }
-        ensures fits { (z : Sizes) (u v : View) → IsRoom z room.old →
-            IsValidating z u self.old.job position.now case validate room.old v → Fits z u self.new room.new v }
+        ensures fits { (z : Sizes) (u v : View) → IsRoom z room.old → PartKnows z u self.old.stage self.old.job room.old v →
+            Fits z u self.new room.new v }
     {
-        match validate.ended() {
-            None => self.go_on(position, Part::Validate { case, validate }),
-            Some(validated) => self.validated(room, position, case, validated),
-        }
+        let Stage::Placed { position, part } = &self.stage else {
+            unreachable!()
+        };
+        let Part::Validate { case, validate } = part else {
+            unreachable!()
+        };
+        let Some(validated) = validate.ended() else {
+            return;
+        };
+        let (position, case) = (*position, *case);
+        self.validated(room, &position, case, validated);
     }
 
     /// The validation has ended so: all that is written was seen, and the change is planned; or a cell was changed.

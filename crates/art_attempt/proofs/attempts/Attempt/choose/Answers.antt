@@ -1,15 +1,17 @@
-use Rattle.std.proofs.Common.{◌∙◌, inl, sym, subst, arith}
+use Rattle.std.proofs.Common.{◌∙◌, ap, inl, sym, subst, arith}
 use Rattle.art_attempt.proofs.Tries.{later_first}
 use Rattle.art_attempt.proofs.Finds.{within_more}
 use Rattle.art_attempt.proofs.CaseCells.{stands_begins}
 use Rattle.art_attempt.proofs.attempts.Attempt.choose.Goals as goal
 use Rattle.art_attempt.specs.Cases.{IsCaseOf}
+use Rattle.art_attempt.specs.Parts.{PartKnows}
+use Rattle.art_attempt.specs.declared.attempts.Attempt.{Attempt}
 use Rattle.art_attempt.specs.declared.attempts.Job.{Job}
 use Rattle.art_attempt.specs.declared.cases.Case.TheVariants.{DropLeaf, Shrink}
 use Rattle.art_attempt.proofs.Validates.{here_begins}
 
-pub read_on-requires-clause-leaf : goal.read_on-requires-clause-leaf
-read_on-requires-clause-leaf c = c.requires.leaf.5
+pub read_on-requires : goal.read_on-requires
+read_on-requires c = record { stage = (c.args.position.now, c.new-rereading.result, ap (λ (a : Attempt). a.stage) c.go_on.ensures, c.requires.leaf.5) }
 
 pub returns-in-Merges-clause-fits : goal.returns-in-Merges-clause-fits
 returns-in-Merges-clause-fits c z u v room so job leaf standing =
@@ -17,7 +19,7 @@ returns-in-Merges-clause-fits c z u v room so job leaf standing =
     let t = c.args.position.now in
     let r = c.args.room.now in
     let p = stands_begins z u 1201 t r v so standing in
-    c.read_on.ensures.fits z u v room (record {
+    c.read_on.ensures.fits z u v room (subst (λ (a : Attempt). PartKnows z u a.stage a.job r v) (sym c.go_on.ensures) (record {
       early = v;
       base = so.still;
       later = later_first v;
@@ -27,8 +29,8 @@ returns-in-Merges-clause-fits c z u v room so job leaf standing =
       leaf = leaf;
       reads = p;
       merges = sym c.loss.ensures ∙ c.in-Merges.is;
-      fits = here_begins z r.row.key.items t r.read_set v v c.new.result c.node.result.now p c.node.ensures (c.new.ensures.fits z v t.stamp);
-    })
+      fits = here_begins z r.row.key.items t r.read_set v v c.new-rereading.result c.node.result.now p c.node.ensures (c.new-rereading.ensures.fits z v t.stamp);
+    }))
 
 pub supply-requires-clause-within : goal.supply-requires-clause-within
 supply-requires-clause-within c =

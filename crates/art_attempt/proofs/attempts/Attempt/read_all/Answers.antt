@@ -1,9 +1,11 @@
 -- The steps are those of the rereading.
-use Rattle.std.proofs.Common.{◌∙◌, refl, sym, subst, arith}
+use Rattle.std.proofs.Common.{◌∙◌, Some, ap, sym, subst, arith}
 use Rattle.std.specs.Prelude.{⊤}
-use Rattle.art_attempt.proofs.Stages.{at_part, same_on}
-use Rattle.art_attempt.specs.Attempts.{Fits, StandsAt, deed_at}
+use Rattle.art_attempt.proofs.Stages.{asks_part, at_part, same_on}
+use Rattle.art_attempt.specs.Attempts.{Fits, deed_at}
+use Rattle.art_attempt.specs.declared.attempts.Part.{Part}
 use Rattle.art_attempt.specs.declared.attempts.Part.TheVariants as parts
+use Rattle.art_attempt.specs.declared.attempts.Stage.TheVariants as stages
 use Rattle.art_attempt.proofs.Asked.{reads_look}
 use Rattle.art_find.specs.Asking.{MayLook}
 use Rattle.art_machine.proofs.Counting.{look_counts}
@@ -25,6 +27,11 @@ look-requires g c =
           (c.in-Some.ensures.allowed z v _ h.fits);
     }
 
+pub read_told-requires-clause-stage : goal.read_told-requires-clause-stage
+read_told-requires-clause-stage g c =
+    let t = c.in-Placed.position in
+    (t, c.in-Reading.rereading, c.in-Placed.is ∙ ap (λ (p : Part). stages.Placed t p) c.in-Reading.is)
+
 pub read_told-requires-clause-told : goal.read_told-requires-clause-told
 read_told-requires-clause-told g c =
     let z = g.S.Steps.sizes c.args.steps.now in
@@ -36,12 +43,7 @@ read_told-requires-clause-told g c =
     let d = deed_at m r in
     let a = c.in-Some.asked in
     let row : Answers z (telling d) a c.in-Some-look.answer v w = subst (λ (y : Sizes). Answers y (telling d) a c.in-Some-look.answer v w) i.sizes (c.in-Some-look.ensures.row d) in
-    (z, i.here.0, v, w, a, i.here.1.room, (at_part z i.here.0 m r v c.in-Placed.position c.in-Placed.part (parts.Reading c.in-Reading.rereading) c.in-Placed.is c.in-Reading.is i.here.1).0, sym c.next.ensures.asks ∙ c.in-Some.is, row)
-
-pub read_told-requires-clause-more : goal.read_told-requires-clause-more
-read_told-requires-clause-more g c =
-    let i = c.loop-left.invariant in
-    (at_part (g.S.Steps.sizes c.args.steps.now) i.here.0 c.loop-left.self c.loop-left.room (g.S.Steps.view c.loop-left.steps) c.in-Placed.position c.in-Placed.part (parts.Reading c.in-Reading.rereading) c.in-Placed.is c.in-Reading.is i.here.1).1
+    (z, i.here.0, v, w, a, i.here.1, asks_part m r c.in-Placed.position c.in-Placed.part (parts.Reading c.in-Reading.rereading) c.in-Placed.is c.in-Reading.is (Some a) (sym c.next.ensures.asks ∙ c.in-Some.is), row)
 
 pub loop-left-preserved : goal.loop-left-preserved
 loop-left-preserved g c =
@@ -59,7 +61,7 @@ loop-left-preserved g c =
     let is = sym c.next.ensures.asks ∙ c.in-Some.is in
     let one = (look_counts z d a c.in-Some-look.answer v w (reads_look c.in-Placed.position.stamp c.in-Reading.rereading a is) row).steps in
     let on : (u : View) → Fits z u m r v → Fits z u c.read_told.new.self c.read_told.new.room w = λ u fits.
-    c.read_told.ensures.fits z u v w a fits.room (at_part z u m r v c.in-Placed.position c.in-Placed.part (parts.Reading c.in-Reading.rereading) c.in-Placed.is c.in-Reading.is fits).0 is row in
+    c.read_told.ensures.fits z u v w a fits (asks_part m r c.in-Placed.position c.in-Placed.part (parts.Reading c.in-Reading.rereading) c.in-Placed.is c.in-Reading.is (Some a) is) row in
     let made = i.made in
     let less = i.less in
     let more = c.loop-left-test.true in
@@ -75,6 +77,3 @@ loop-left-preserved g c =
       here = (i.here.0, on i.here.0 i.here.1);
       fits = λ u fits. on u (i.fits u fits);
     }
-
-pub read_told-requires-clause-at : goal.read_told-requires-clause-at
-read_told-requires-clause-at g c = subst (StandsAt c.in-Placed.position) (sym c.in-Placed.is) refl

@@ -1,4 +1,4 @@
-use Rattle.std.proofs.Common.{◌∙◌, ◌-◌, ◌<◌, refl, ap, sym, subst}
+use Rattle.std.proofs.Common.{◌∙◌, ◌-◌, ◌<◌, ap, sym, subst}
 use Rattle.art_attempt.proofs.Given.{ask_looks, look_once, look_row, made_row}
 use Rattle.art_attempt.proofs.OneStep.{part_once}
 use Rattle.art_attempt.proofs.Stages.{deed_found}
@@ -7,7 +7,7 @@ use Rattle.art_attempt.specs.Asking.{given}
 use Rattle.art_attempt.proofs.Finds.{finding_allowed}
 use Rattle.art_attempt.proofs.Left.{free_less}
 use Rattle.art_attempt.proofs.attempts.Attempt.told.Goals as goal
-use Rattle.art_attempt.specs.Attempts.{StageFits, StandsAt, asks_at, deed_at, deed_by, free_at, left_at, steps_left}
+use Rattle.art_attempt.specs.Attempts.{StageFits, asks_at, deed_at, deed_by, free_at, left_at, steps_left}
 use Rattle.art_attempt.specs.declared.attempts.Stage.{Stage as StageOf}
 use Rattle.art_machine.specs.Acting.{Answers, steps_in, telling}
 use Rattle.art_step.specs.declared.deeds.Deed.{Deed}
@@ -48,22 +48,6 @@ returns-in-Finding-clause-left c left begun =
     let next = c.find_told.new.self in
     subst (λ (s : StageOf). steps_left (left - steps_in c.args.answer) next < left_at left s) (sym c.in-Finding.is)
     (free_less left (steps_in c.args.answer) next.stage (begun (ap free_at c.in-Finding.is)) one c.find_told.ensures.free)
-
-pub part_told-requires-clause-told : goal.part_told-requires-clause-told
-part_told-requires-clause-told c =
-    let m = c.args.self.now in
-    let r = c.args.room.now in
-    let q = c.requires in
-    let stage = subst (λ (s : StageOf). StageFits q.0 q.1 s m r q.2) c.in-Placed.is q.5.stage in
-    let at = sym (ap (λ (s : StageOf). asks_at s m r) c.in-Placed.is) ∙ q.6 in
-    (q.0, q.1, q.2, q.3, q.4, q.5.room, stage, at, q.7)
-
-pub returns-in-Placed-clause-fits : goal.returns-in-Placed-clause-fits
-returns-in-Placed-clause-fits c z u v w asked fits is row =
-    let m = c.args.self.now in
-    let r = c.args.room.now in
-    let stage = subst (λ (s : StageOf). StageFits z u s m r v) c.in-Placed.is fits.stage in
-    c.part_told.ensures.fits z u v w asked fits.room stage (sym (ap (λ (s : StageOf). asks_at s m r) c.in-Placed.is) ∙ is) row
 
 pub returns-in-Placed-clause-left : goal.returns-in-Placed-clause-left
 returns-in-Placed-clause-left c left begun =
@@ -112,6 +96,3 @@ returns-in-Ended-clause-overlaps c is =
     let r = c.args.room.now in
     let at = sym (ap (λ (s : StageOf). asks_at s m r) c.in-Ended.is) ∙ c.requires.6 in
     absurd (cc)
-
-pub part_told-requires-clause-at : goal.part_told-requires-clause-at
-part_told-requires-clause-at c = subst (StandsAt c.in-Placed.position) (sym c.in-Placed.is) refl

@@ -1,0 +1,24 @@
+-- What is known of a part where it stands, which may have ended.
+use Rattle.std.specs.Prelude.{Option, None}
+use Rattle.art_attempt.specs.Attempts.{HasSupplies, IsNaming, IsReadingOn, IsValidating}
+use Rattle.art_attempt.specs.Validate as validate
+use Rattle.art_attempt.specs.declared.attempts.Job.{Job}
+use Rattle.art_attempt.specs.declared.attempts.Part.TheVariants as part
+use Rattle.art_attempt.specs.declared.attempts.Stage.{Stage}
+use Rattle.art_attempt.specs.declared.attempts.Stage.TheVariants as stage
+use Rattle.art_attempt.specs.declared.rooms.Room.{Room}
+use Rattle.art_attempt.specs.declared.validate.Validated.{Validated}
+use Rattle.art_step.specs.declared.views.Sizes.{Sizes}
+use Rattle.art_step.specs.declared.views.View.{View}
+
+abbrev pub PartKnows : Sizes → View → Stage → Job → Room → View → Type 0
+PartKnows z u (stage.Placed t (part.Reserve c s)) j r v = HasSupplies z u j t c s r v
+PartKnows z u (stage.Placed t (part.Reading q)) j r v = IsReadingOn z u j t q r v
+PartKnows z u (stage.Placed t (part.Naming byte n s)) j r v = IsNaming z u j t byte n s r v
+PartKnows z u (stage.Placed t (part.Validate c s)) j r v = IsValidating z u j t c s r v
+PartKnows z u s j r v = ⊥
+
+-- how its validation ended, if it has
+abbrev pub validated_in : Stage → Option Validated
+validated_in (stage.Placed t (part.Validate c s)) = validate.ended_at s
+validated_in s = None
