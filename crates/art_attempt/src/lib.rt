@@ -85,9 +85,11 @@
 //!
 //! `Attempt` is a value of scalars with `next` and `told`: its job, and the stage where it stands. A stage carries what is known
 //! there, and no more: the finding while the place is sought; then the place (`Placed`), with what is done there (`Part`) and the
-//! case of it, once it was chosen; then the making of the change. All that is large stands in the `Room`: the row, the leaf that goes, the
-//! numbers in hand, the words that were read, the bodies of the cells that are written, the change. The room's row stays as it is,
-//! but for the number that its leaf has.
+//! case of it, once it was chosen; then the making of the change. A part runs, and is told its answers, where it stands: the place
+//! is copied only where the attempt leaves the part.
+//!
+//! All that is large stands in the `Room`: the row, the leaf that goes, the numbers in hand, the words that were read, the bodies
+//! of the cells that are written, the change. The room's row stays as it is, but for the number that its leaf has.
 //!
 //! # What is proved
 //!
