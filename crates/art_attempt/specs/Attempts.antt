@@ -440,10 +440,10 @@ EndsBy z u j t c r Overlaps v = (j ≡ Insert) × EndsSo z u r v × IsOverlap z 
 EndsBy z u j t c r Restart v = EndsSo z u r v × (u.failures < v.failures)
 
 -- of the place and the case of which its end speaks
-pub record EndFits (z : Sizes) (u : View) (m : Attempt) (r : Room) (e : Ending) (v : View) : Type 0 where
+pub record EndFits (z : Sizes) (u : View) (j : Job) (r : Room) (e : Ending) (v : View) : Type 0 where
   pub position : Position
   pub case : Case
-  pub ends : EndsBy z u m.job position case r e v
+  pub ends : EndsBy z u j position case r e v
 
 -- ---- why it is tried anew
 
@@ -480,7 +480,7 @@ abbrev pub StageFits : Sizes → View → Stage → Attempt → Room → View �
 StageFits z u (stage.Finding f) m r v = IsFinding z u m.job f r v
 StageFits z u (stage.Placed t q) m r v = PartFits z u m.job t q r v
 StageFits z u (stage.Apply s) m r v = HasMade z u m.job s r v × (apply.ended_at s ≡ None)
-StageFits z u (stage.Ended e) m r v = EndFits z u m r e v
+StageFits z u (stage.Ended e) m r v = EndFits z u m.job r e v
 
 -- the room is one of a key
 pub record IsRoom (z : Sizes) (r : Room) : Type 0 where

@@ -49,10 +49,10 @@ IsRefusal ending.Restart = ⊤
 IsRefusal e = ⊥
 
 module _ (z : Sizes) (u : View) (r : Room) (v : View) where
-  pub ends_as : (t : Attempt) (e : Ending) → Fits z u t r v → ended_at t ≡ Some e → EndFits z u t r e v
+  pub ends_as : (t : Attempt) (e : Ending) → Fits z u t r v → ended_at t ≡ Some e → EndFits z u t.job r e v
   ends_as t e fits is = subst (λ (s : Stage). StageFits z u s t r v) (ended_stage t.stage e is) fits.stage
 
-  pub refused_so : (t : Attempt) (e : Ending) → IsRefusal e → EndFits z u t r e v → EndsSo z u r v
+  pub refused_so : (t : Attempt) (e : Ending) → IsRefusal e → EndFits z u t.job r e v → EndsSo z u r v
   refused_so t ending.New none fits = absurd none
   refused_so t (ending.Present stands) none fits = absurd none
   refused_so t (ending.Gone value) none fits = absurd none
