@@ -1,7 +1,7 @@
 -- What an attempt that fits knows at the stage where it stands; what stays of an attempt stays on.
-use Rattle.std.proofs.Common.{◌≡◌, ◌∙◌, Option, ap, sym, subst}
+use Rattle.std.proofs.Common.{◌≡◌, ◌∙◌, Option, Some, ap, sym, subst}
 use Rattle.art_attempt.specs.declared.rooms.Room.{Room}
-use Rattle.art_attempt.specs.Attempts.{Fits, HasMade, IsFinding, IsRoom, IsSameTry, PartFits, StageFits, asks, asks_at, deed_at, deed_by, found_in, part_asks, settled_by}
+use Rattle.art_attempt.specs.Attempts.{Fits, HasMade, IsFinding, IsRoom, IsSameTry, PartFits, StageFits, asks, asks_at, deed_at, deed_by, finding_asks, found_in, part_asks, settled_by}
 use Rattle.art_attempt.specs.Parts.{PartKnows}
 use Rattle.art_attempt.specs.declared.attempts.Attempt.{Attempt}
 use Rattle.art_attempt.specs.declared.attempts.Stage.{Stage}
@@ -9,8 +9,11 @@ use Rattle.art_attempt.specs.declared.attempts.Stage.TheVariants as stage
 use Rattle.art_attempt.specs.declared.attempts.Part.{Part}
 use Rattle.art_find.specs.declared.findings.Finding.{Finding}
 use Rattle.art_find.specs.declared.findings.Position.{Position}
+use Rattle.art_machine.specs.Acting.{Answers, telling}
 use Rattle.art_machine.specs.declared.actions.Action.{Action}
+use Rattle.art_machine.specs.declared.actions.Answer.{Answer}
 use Rattle.art_make.specs.declared.apply.Apply.{Apply}
+use Rattle.art_step.specs.declared.deeds.Deed.{Deed}
 use Rattle.art_step.specs.declared.views.Sizes.{Sizes}
 use Rattle.art_step.specs.declared.views.View.{View}
 
@@ -63,3 +66,11 @@ module _ (z : Sizes) (u : View) (m n : Attempt) (t : Position) (p : Part) (r : R
 -- the deed of its check, while the place is sought
 pub deed_found : (m : Attempt) (f : Finding) (r : Room) → m.stage ≡ stage.Finding f → deed_at m r ≡ deed_by m.job f r
 deed_found m f r is = ap (λ (s : Stage). settled_by m.job r.row (found_in s)) is
+
+-- so it asks what the finding asks, and is told of that deed
+module _ (m : Attempt) (f : Finding) (r : Room) (at : m.stage ≡ stage.Finding f) (a : Action) where
+  pub asked_finding : asks m r ≡ Some a → finding_asks m.job f ≡ Some a
+  asked_finding asked = sym (ap (λ (s : Stage). asks_at s m r) at) ∙ asked
+
+  pub told_finding : (z : Sizes) (answer : Answer) (v w : View) → Answers z (telling (deed_at m r)) a answer v w → Answers z (telling (deed_by m.job f r)) a answer v w
+  told_finding z answer v w row = subst (λ (d : Deed). Answers z (telling d) a answer v w) (deed_found m f r at) row

@@ -142,7 +142,7 @@ impl Attempt {
         ensures overlaps { ended_at self.new ≡ Some overlaps → IsOverlapBy self.old answer }
     {
         match self.stage {
-            Stage::Finding(finding) => self.find_told(room, finding, answer),
+            Stage::Finding(_) => self.find_told(room, answer),
             Stage::Placed { .. } => self.part_told(room, answer),
             Stage::Apply(apply) => self.make_told(room, apply, answer),
             Stage::Ended(_) => {}

@@ -1,7 +1,7 @@
 //! How an attempt finds the place of its key, and what the check of that place tells.
 ghost use Rattle.std.specs.Prelude.{◌≡◌, ◌≢◌, ℕ, ◌+◌, ◌<◌, ◌≤◌, None, Some, true, false};
 ghost use Rattle.art_attempt.specs.Attempts.{Fits, IsFinding, IsOverlapBy, IsRoom, IsSameTry, WasPlaced, check_of, deed_by, ended_at, entered_by};
-ghost use Rattle.art_attempt.specs.Attempts.{StandsAt, finding_asks, is_free, settles};
+ghost use Rattle.art_attempt.specs.Attempts.{StandsAt, asks, deed_at, finding_asks, is_free, settles};
 ghost use Rattle.art_attempt.specs.declared.attempts.Ending.TheVariants.{Restart as anew, Overlaps as overlaps};
 ghost use Rattle.art_attempt.specs.declared.attempts.Job.TheVariants as jobs;
 ghost use Rattle.art_attempt.specs.declared.attempts.Stage.TheVariants as stages;
@@ -36,45 +36,46 @@ impl Attempt {
     }
 
     /// A cell was looked at on the way to the place of the key.
-    pub(crate) fn find_told(&mut self, room: &mut Room, finding: Finding, answer: Answer)
-        requires stage { self.old.stage ≡ stages.Finding finding }
-        requires told { (z : Sizes) × (u : View) × (v : View) × (w : View) × (asked : ActionOf) × IsRoom z room.old ×
-            IsFinding z u self.old.job finding room.old v × (finding_asks self.old.job finding ≡ Some asked) ×
-            ActionAnswers z (telling (deed_by self.old.job finding room.old)) asked answer v w }
+    pub(crate) fn find_told(&mut self, room: &mut Room, answer: Answer)
+        requires stage { (f : FindingOf) × (self.old.stage ≡ stages.Finding f) }
+        requires told { (z : Sizes) × (u : View) × (v : View) × (w : View) × (asked : ActionOf) × Fits z u self.old room.old v ×
+            (asks self.old room.old ≡ Some asked) × ActionAnswers z (telling (deed_at self.old room.old)) asked answer v w }
         ensures kept { IsSameTry self.old self.new room.old room.new }
         ensures anew { ended_at self.new ≡ Some anew → goes_on answer ≡ false }
         ensures overlaps { ended_at self.new ≡ Some overlaps → IsOverlapBy self.old answer }
         ensures free { is_free self.new ≡ true }
-        ensures fits { (z : Sizes) (u v w : View) (asked : ActionOf) → IsRoom z room.old →
-            IsFinding z u self.old.job finding room.old v → finding_asks self.old.job finding ≡ Some asked →
-            ActionAnswers z (telling (deed_by self.old.job finding room.old)) asked answer v w → Fits z u self.new room.new w }
+        ensures fits { (z : Sizes) (u v w : View) (asked : ActionOf) → Fits z u self.old room.old v →
+            asks self.old room.old ≡ Some asked → ActionAnswers z (telling (deed_at self.old room.old)) asked answer v w →
+            Fits z u self.new room.new w }
     {
+        let Stage::Finding(finding) = &self.stage else {
+            unreachable!()
+        };
         match finding.position() {
             Some(position) => self.settled(room, &position, answer),
-            None => self.find_on(room, finding, answer),
+            None => self.find_on(room, answer),
         }
     }
 
     /// The descent goes on, or its way was changed.
     #[inline(always)]
-    fn find_on(&mut self, room: &mut Room, finding: Finding, answer: Answer)
-        requires nowhere { position_at finding ≡ None }
-        requires told { (z : Sizes) × (u : View) × (v : View) × (w : View) × (asked : ActionOf) × IsRoom z room.old ×
-            IsFinding z u self.old.job finding room.old v × (finding_asks self.old.job finding ≡ Some asked) ×
-            ActionAnswers z (telling (deed_by self.old.job finding room.old)) asked answer v w }
+    fn find_on(&mut self, room: &mut Room, answer: Answer)
+        requires stage { (f : FindingOf) × (self.old.stage ≡ stages.Finding f) × (position_at f ≡ None) }
+        requires told { (z : Sizes) × (u : View) × (v : View) × (w : View) × (asked : ActionOf) × Fits z u self.old room.old v ×
+            (asks self.old room.old ≡ Some asked) × ActionAnswers z (telling (deed_at self.old room.old)) asked answer v w }
         ensures kept { IsSameTry self.old self.new room.old room.new }
         ensures anew { ended_at self.new ≡ Some anew → goes_on answer ≡ false }
         ensures not_overlaps { ended_at self.new ≢ Some overlaps }
         ensures free { is_free self.new ≡ true }
-        ensures fits { (z : Sizes) (u v w : View) (asked : ActionOf) → IsRoom z room.old →
-            IsFinding z u self.old.job finding room.old v → finding_asks self.old.job finding ≡ Some asked →
-            ActionAnswers z (telling (deed_by self.old.job finding room.old)) asked answer v w → Fits z u self.new room.new w }
+        ensures fits { (z : Sizes) (u v w : View) (asked : ActionOf) → Fits z u self.old room.old v →
+            asks self.old room.old ≡ Some asked → ActionAnswers z (telling (deed_at self.old room.old)) asked answer v w →
+            Fits z u self.new room.new w }
     {
-        let mut finding = finding;
+        let Stage::Finding(finding) = &mut self.stage else {
+            unreachable!()
+        };
         let on = finding.told(&mut room.read_set, room.row.key.as_slice(), answer);
-        if on {
-            self.stage = Stage::Finding(finding);
-        } else {
+        if !on {
             self.stage = Stage::Ended(Ending::Restart);
         }
     }
