@@ -123,7 +123,7 @@ impl Attempt {
         match &self.stage {
             Stage::Finding(finding) => self.find_next(finding),
             Stage::Placed { position, part } => self.part_next(room, position, part),
-            Stage::Apply(apply) => self.make_next(room, *apply),
+            Stage::Apply(apply) => self.make_next(room, apply),
             Stage::Ended(_) => None,
         }
     }
@@ -203,7 +203,7 @@ impl Attempt {
         ensures free { result ≡ true → ended_at self.now ≡ None → (z : Sizes) (u v : View) (r : RoomOf) → Fits z u self.now r v →
             EndsSo z u r v }
     {
-        free_at(self.stage)
+        free_at(&self.stage)
     }
 
     /// The value that was found, where the check of the place settles the answer.
@@ -228,8 +228,8 @@ fn found_by(finding: &Finding) -> u64
 }
 
 /// Whether nothing is held at this stage.
-fn free_at(stage: Stage) -> bool
-    ensures { result ≡ free_at stage }
+fn free_at(stage: &Stage) -> bool
+    ensures { result ≡ free_at stage.now }
 {
     match stage {
         Stage::Apply(apply) => apply.is_begun(),

@@ -198,11 +198,11 @@ impl Attempt {
 
     /// What comes next where the change is made.
     #[inline(always)]
-    pub(crate) fn make_next(&self, room: &Room, apply: Apply) -> Option<Action>
-        ensures asks { result ≡ apply_asks apply room.now }
-        ensures allowed { (z : Sizes) (u v : View) (d : Deed) → HasMade z u self.now.job apply room.now v →
+    pub(crate) fn make_next(&self, room: &Room, apply: &Apply) -> Option<Action>
+        ensures asks { result ≡ apply_asks apply.now room.now }
+        ensures allowed { (z : Sizes) (u v : View) (d : Deed) → HasMade z u self.now.job apply.now room.now v →
             IfSome result (IsAllowed z d room.now.change v) }
-        ensures going { (z : Sizes) (u v : View) → HasMade z u self.now.job apply room.now v → made_at apply ≡ None →
+        ensures going { (z : Sizes) (u v : View) → HasMade z u self.now.job apply.now room.now v → made_at apply.now ≡ None →
             (a : ActionOf) × (result ≡ Some a) }
     {
         apply.next(&room.change)

@@ -40,12 +40,12 @@ impl Attempt {
 
     /// What comes next where the node is read on.
     #[inline(always)]
-    pub(crate) fn read_next(&self, position: &Position, rereading: Rereading) -> Option<Action>
-        ensures asks { result ≡ reading_asks position.now rereading }
-        ensures allowed { (z : Sizes) (u v : View) (r : RoomOf) (d : Deed) → IsReadingOn z u self.now.job position.now rereading r v →
+    pub(crate) fn read_next(&self, position: &Position, rereading: &Rereading) -> Option<Action>
+        ensures asks { result ≡ reading_asks position.now rereading.now }
+        ensures allowed { (z : Sizes) (u v : View) (r : RoomOf) (d : Deed) → IsReadingOn z u self.now.job position.now rereading.now r v →
             IfSome result (IsAllowed z d r.change v) }
-        ensures going { (z : Sizes) (u v : View) (r : RoomOf) → IsReadingOn z u self.now.job position.now rereading r v →
-            rereading.place < size_of position.now.stamp.cell → (a : ActionOf) × (result ≡ Some a) }
+        ensures going { (z : Sizes) (u v : View) (r : RoomOf) → IsReadingOn z u self.now.job position.now rereading.now r v →
+            rereading.now.place < size_of position.now.stamp.cell → (a : ActionOf) × (result ≡ Some a) }
     {
         rereading.next(position.stamp)
     }
@@ -206,11 +206,11 @@ impl Attempt {
 
     /// What comes next where that node is stamped.
     #[inline(always)]
-    pub(crate) fn name_next(&self, position: &Position, naming: Naming) -> Option<Action>
-        ensures asks { result ≡ naming_asks position.now naming }
+    pub(crate) fn name_next(&self, position: &Position, naming: &Naming) -> Option<Action>
+        ensures asks { result ≡ naming_asks position.now naming.now }
         ensures allowed { (z : Sizes) (u v : View) (byte : ℕ) (n : NodeOf) (r : RoomOf) (d : Deed) →
-            IsNaming z u self.now.job position.now byte n naming r v → IfSome result (IsAllowed z d r.change v) }
-        ensures going { named_at naming ≡ None → (a : ActionOf) × (result ≡ Some a) }
+            IsNaming z u self.now.job position.now byte n naming.now r v → IfSome result (IsAllowed z d r.change v) }
+        ensures going { named_at naming.now ≡ None → (a : ActionOf) × (result ≡ Some a) }
     {
         naming.next(position)
     }

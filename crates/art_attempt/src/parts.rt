@@ -31,11 +31,11 @@ impl Attempt {
         ensures going { (z : Sizes) (u v : View) → PartFits z u self.now.job position.now part.now room.now v →
             (a : ActionOf) × (result ≡ Some a) }
     {
-        match *part {
+        match part {
             Part::Reserve { reserve, .. } => self.supply_next(room, reserve),
             Part::Reading(rereading) => self.read_next(position, rereading),
             Part::Naming { naming, .. } => self.name_next(position, naming),
-            Part::Validate { case, validate } => self.validate_next(position, case, validate),
+            Part::Validate { case, validate } => self.validate_next(position, *case, validate),
         }
     }
 

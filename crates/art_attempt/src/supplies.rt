@@ -39,13 +39,13 @@ impl Attempt {
 
     /// What comes next where numbers are brought into the hand.
     #[inline(always)]
-    pub(crate) fn supply_next(&self, room: &Room, reserve: Reserve) -> Option<Action>
+    pub(crate) fn supply_next(&self, room: &Room, reserve: &Reserve) -> Option<Action>
         requires short { length room.now.row.key.items ≤ 64 }
-        ensures asks { result ≡ supply_asks reserve room.now }
+        ensures asks { result ≡ supply_asks reserve.now room.now }
         ensures allowed { (z : Sizes) (u v : View) (t : PositionOf) (c : CaseOf) (d : Deed) →
-            HasSupplies z u self.now.job t c reserve room.now v → IfSome result (IsAllowed z d room.now.change v) }
-        ensures going { (z : Sizes) (u v : View) (t : PositionOf) (c : CaseOf) → HasSupplies z u self.now.job t c reserve room.now v →
-            reserved_at reserve ≡ None → (a : ActionOf) × (result ≡ Some a) }
+            HasSupplies z u self.now.job t c reserve.now room.now v → IfSome result (IsAllowed z d room.now.change v) }
+        ensures going { (z : Sizes) (u v : View) (t : PositionOf) (c : CaseOf) → HasSupplies z u self.now.job t c reserve.now room.now v →
+            reserved_at reserve.now ≡ None → (a : ActionOf) × (result ≡ Some a) }
     {
         let key = room.row.key.as_slice();
         reserve.next(key, room.row.value, &room.stock)
@@ -205,13 +205,13 @@ impl Attempt {
         &self,
         position: &Position,
         case: Case,
-        validate: Validate,
+        validate: &Validate,
     ) -> Option<Action>
-        ensures asks { result ≡ validate_asks position.now case validate }
+        ensures asks { result ≡ validate_asks position.now case validate.now }
         ensures allowed { (z : Sizes) (u v : View) (r : RoomOf) (d : Deed) →
-            IsValidating z u self.now.job position.now case validate r v → IfSome result (IsAllowed z d r.change v) }
-        ensures going { (z : Sizes) (u v : View) (r : RoomOf) → IsValidating z u self.now.job position.now case validate r v →
-            validated_at validate ≡ None → (a : ActionOf) × (result ≡ Some a) }
+            IsValidating z u self.now.job position.now case validate.now r v → IfSome result (IsAllowed z d r.change v) }
+        ensures going { (z : Sizes) (u v : View) (r : RoomOf) → IsValidating z u self.now.job position.now case validate.now r v →
+            validated_at validate.now ≡ None → (a : ActionOf) × (result ≡ Some a) }
     {
         let cells = case.cells(&position.verdict);
         validate.next(position, &cells)

@@ -14,7 +14,7 @@ returns-clause-allowed c z u v d h = by_answer c.next.result refl
     by_answer None is = tt
     by_answer (Some a) is =
         let change = c.args.room.now.change in
-        let apply = c.args.apply in
+        let apply = c.args.apply.now in
         let asks = sym c.next.ensures.asks ∙ is in
         made_may z d change v a (asks_made change apply a asks) (allowed z h.early v change apply a h.fits asks)
 

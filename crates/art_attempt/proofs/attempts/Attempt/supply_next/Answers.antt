@@ -18,7 +18,7 @@ returns-clause-allowed c z u v t k d h = by_answer c.next.result refl
         let r = c.args.room.now in
         let demand = demand_of z k t.verdict in
         let key = c.as_slice-key.ensures.value in
-        let at = subst (λ (l : List ℕ). asks l r.row.value r.stock c.args.reserve ≡ Some a) key (sym {b = asks _ r.row.value r.stock c.args.reserve} c.next.ensures.asks ∙ is) in
-        let may = c.next.ensures.allowed z h.early v demand (subst (λ (l : List ℕ). SupplyFits z demand l r.row.value c.args.reserve r.stock h.early v) (sym key) h.fits) in
-        plain_may z d r.change v a (supply_plain a (supply_asks_supply r.row.key.items r.row.value r.stock c.args.reserve a at))
+        let at = subst (λ (l : List ℕ). asks l r.row.value r.stock c.args.reserve.now ≡ Some a) key (sym {b = asks _ r.row.value r.stock c.args.reserve.now} c.next.ensures.asks ∙ is) in
+        let may = c.next.ensures.allowed z h.early v demand (subst (λ (l : List ℕ). SupplyFits z demand l r.row.value c.args.reserve.now r.stock h.early v) (sym key) h.fits) in
+        plain_may z d r.change v a (supply_plain a (supply_asks_supply r.row.key.items r.row.value r.stock c.args.reserve.now a at))
         (subst (λ (o : Option Action). IfSome o (acting.IsAllowed z None v)) is may)
