@@ -245,6 +245,40 @@ impl Attempt {
         }
     }
 
+    /// Makes the steps of the naming, as long as more than one turn is left.
+    pub(crate) fn name_all<S: EpochSteps>(&mut self, steps: &mut S, room: &mut Room, left: &mut u32)
+        requires free { is_free self.old ≡ true }
+        requires not_overlaps { ended_at self.old ≢ Some overlaps }
+        requires turn { 0 < left.old }
+        requires fits { (u : View) × Fits (S.sizes steps.old) u self.old room.old (S.view steps.old) }
+        ensures only { S.only steps.old steps.new }
+        ensures kept { IsSameTry self.old self.new room.old room.new }
+        ensures free { is_free self.new ≡ true }
+        ensures not_overlaps { ended_at self.new ≢ Some overlaps }
+        ensures turn { 0 < left.new }
+        ensures less { left.new ≤ left.old }
+        ensures made { (S.view steps.new).steps + left.new ≡ (S.view steps.old).steps + left.old }
+        ensures fits { (u : View) → Fits (S.sizes steps.old) u self.old room.old (S.view steps.old) →
+            Fits (S.sizes steps.old) u self.new room.new (S.view steps.new) }
+    {
+        while *left > 1 {
+            let Stage::Placed { position, part } = &self.stage else {
+                return;
+            };
+            let Part::Naming { naming, .. } = part else {
+                return;
+            };
+            let Some(asked) = naming.next(position) else {
+                return;
+            };
+            let Some(answer) = look(steps, asked) else {
+                return;
+            };
+            *left -= 1;
+            self.name_told(room, answer);
+        }
+    }
+
     /// The naming has ended so: the cells are validated, with the node below, or a cell was changed.
     fn named(&mut self, room: &Room, position: &Position, byte: u8, node: Node, named: Named)
         requires at { StandsAt position.now self.old.stage }

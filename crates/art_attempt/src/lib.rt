@@ -78,8 +78,8 @@
 //!
 //! Who has a carrier of steps at hand need not make them one by one. A reserve and a validation run themselves (`run`): they
 //! ask, make the step and hear the answer until they have ended. Each step takes one turn. The last turn is left, so that what
-//! comes after the machine can still be asked for. `hurry` of an attempt goes by these runs; a naming has two steps at most, and
-//! no `run`.
+//! comes after the machine can still be asked for. `hurry` of an attempt goes by these runs. A naming has two steps at most and no
+//! `run`: `hurry` asks for each and makes it.
 //!
 //! # What stands beside it
 //!

@@ -84,9 +84,8 @@ impl Attempt {
         match part {
             Part::Reserve { .. } => self.supply_all(steps, room, left),
             Part::Reading(_) => self.read_all(steps, room, left),
+            Part::Naming { .. } => self.name_all(steps, room, left),
             Part::Validate { .. } => self.validate_all(steps, room, left),
-            // a naming makes two steps at most
-            Part::Naming { .. } => {}
         }
     }
 

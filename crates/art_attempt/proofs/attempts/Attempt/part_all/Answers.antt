@@ -1,6 +1,5 @@
 -- The steps are those of the part.
 use Rattle.std.proofs.Common.{◌∙◌, ap, sym}
-use Rattle.art_attempt.proofs.Spending.{spends_none}
 use Rattle.art_attempt.specs.Attempts.{ending_at, free_at}
 use Rattle.art_attempt.specs.declared.attempts.Part.{Part as PartOf}
 use Rattle.art_attempt.specs.declared.attempts.Stage.TheVariants as stages
@@ -25,11 +24,11 @@ read_all-requires-clause-not_overlaps g c is = let none = sym (ap ending_at c.in
 pub returns-in-Reading-clause-turns : goal.returns-in-Reading-clause-turns
 returns-in-Reading-clause-turns g c = record { some = c.read_all.ensures.turn; less = c.read_all.ensures.less; made = c.read_all.ensures.made }
 
-pub returns-in-Naming-clause-free : goal.returns-in-Naming-clause-free
-returns-in-Naming-clause-free g c = ap free_at c.in-Placed.is
+pub name_all-requires-clause-free : goal.name_all-requires-clause-free
+name_all-requires-clause-free g c = ap free_at c.in-Placed.is
 
-pub returns-in-Naming-clause-not_overlaps : goal.returns-in-Naming-clause-not_overlaps
-returns-in-Naming-clause-not_overlaps g c is = let none = sym (ap ending_at c.in-Placed.is) ∙ is in absurd (cc)
+pub name_all-requires-clause-not_overlaps : goal.name_all-requires-clause-not_overlaps
+name_all-requires-clause-not_overlaps g c is = let none = sym (ap ending_at c.in-Placed.is) ∙ is in absurd (cc)
 
 pub returns-in-Naming-clause-turns : goal.returns-in-Naming-clause-turns
-returns-in-Naming-clause-turns g c = spends_none (g.S.Steps.view c.args.steps.now) c.args.left.now c.requires.turn
+returns-in-Naming-clause-turns g c = record { some = c.name_all.ensures.turn; less = c.name_all.ensures.less; made = c.name_all.ensures.made }
