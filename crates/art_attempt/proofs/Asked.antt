@@ -12,7 +12,6 @@ use Rattle.art_epoch.specs.Taking as taking
 use Rattle.art_epoch.specs.declared.taking.Search.{Search}
 use Rattle.art_epoch.specs.declared.taking.Search.TheVariants.{Looking, Clearing, Took}
 use Rattle.art_epoch.specs.declared.taking.Taking.{Taking}
-use Rattle.art_find.specs.Findings.{IsToSettle}
 use Rattle.art_find.specs.Rereadings.{reads_next}
 use Rattle.art_find.specs.declared.findings.Position.{Position}
 use Rattle.art_find.specs.declared.rereadings.Rereading.{Rereading}
@@ -135,13 +134,6 @@ naming_asks_look t m a is = look_looks a (naming_looks t m a is)
 -- does no deed, so any is as good
 pub some_deed : Deed
 some_deed = Look (key_of []) End None
-
--- settles nothing
-pub look_settles_none : (a : Action) → IsCellLook a → IsToSettle a → ⊥
-look_settles_none (Begin c) is settles = settles
-look_settles_none (Read x i) is settles = settles
-look_settles_none (Check x) is settles = settles
-look_settles_none a is settles = is
 
 -- is one step
 pub look_steps : (z : Sizes) (a : Action) (r : Answer) (v w : View) → IsCellLook a → ((d : Deed) → Answers z (telling d) a r v w) → w.steps ≡ v.steps + 1

@@ -1,5 +1,5 @@
--- Each step of an attempt is as many as its answer says; what it commits is what its job does.
-use Rattle.std.proofs.Common.{◌≡◌, ◌∙◌, ◌+◌, ℕ, nat_lt, Bool, List, Option, Some, None, sym, ap, subst}
+-- Each step of an attempt is as many as its answer says.
+use Rattle.std.proofs.Common.{◌≡◌, ◌∙◌, ◌+◌, ℕ, nat_lt, List, Option, Some, None, sym, ap, subst}
 use Rattle.std.proofs.lemmas.Option.{same_Some}
 use Rattle.art_attempt.proofs.Finds.{finding_allowed}
 use Rattle.art_attempt.proofs.Given.{ask_looks, look_once, look_row, made_row, plain_row, supply_once, supply_plain}
@@ -7,14 +7,13 @@ use Rattle.art_attempt.proofs.Asked.{if_some, naming_asks_look, reads_look, supp
 use Rattle.art_make.proofs.Keeping.{asks_made}
 use Rattle.art_attempt.specs.Asking.{Answers, given}
 use Rattle.art_attempt.specs.Attempts.{Fits, PartFits, StageFits, asks, asks_at, deed_at, deed_by, part_asks}
-use Rattle.art_attempt.specs.Cases.{cells_of, demand_of, made_by}
+use Rattle.art_attempt.specs.Cases.{cells_of, demand_of}
 use Rattle.art_attempt.specs.declared.attempts.Attempt.{Attempt}
 use Rattle.art_attempt.specs.declared.attempts.Part.{Part}
 use Rattle.art_attempt.specs.declared.attempts.Part.TheVariants as part
 use Rattle.art_attempt.specs.declared.attempts.Stage.{Stage}
 use Rattle.art_attempt.specs.declared.attempts.Stage.TheVariants as stage
 use Rattle.art_attempt.specs.declared.rooms.Room.{Room}
-use Rattle.art_cell.specs.declared.cells.Cell.{Cell}
 use Rattle.art_cell.specs.declared.layouts.Pool.{Pool}
 use Rattle.art_find.specs.declared.findings.Position.{Position}
 use Rattle.art_epoch.specs.Taking as taking
@@ -32,7 +31,7 @@ use Rattle.art_machine.proofs.Counting.{look_counts, steps_made, taking_counts}
 use Rattle.art_machine.specs.Acting as acting
 use Rattle.art_machine.specs.Acting.{IsLook, steps_in}
 use Rattle.art_machine.specs.declared.actions.Action.{Action}
-use Rattle.art_machine.specs.declared.actions.Action.TheVariants.{ClearBit, Commit}
+use Rattle.art_machine.specs.declared.actions.Action.TheVariants.{ClearBit}
 use Rattle.art_machine.specs.declared.actions.Answer.{Answer}
 use Rattle.art_machine.specs.declared.actions.Answer.TheVariants.{Begun, Word, Checked, Upgraded, Done}
 use Rattle.art_make.proofs.Told.{allowed}
@@ -104,21 +103,3 @@ module _ (z : Sizes) (u : View) (m : Attempt) (r : Room) (v w : View) (a : Actio
 
   pub attempt_steps : Fits z u m r v → asks m r ≡ Some a → w.steps ≡ v.steps + steps_in answer
   attempt_steps fits is = made_at m.stage fits.stage is
-
--- ---- what is committed
-
-module _ (z : Sizes) (u : View) (m : Attempt) (r : Room) (v : View) (c : Cell) (b : Bool) where
-  no_part : (t : Position) (p : Part) → part_asks p t r ≡ Some (Commit c b) → ⊥
-  no_part t (part.Reserve d s) is = supply_asks_supply r.row.key.items r.row.value r.stock s (Commit c b) is
-  no_part t (part.Reading q) is = reads_look t.stamp q (Commit c b) is
-  no_part t (part.Validate d s) is = validate_asks_look t (cells_of d t.verdict) s (Commit c b) is
-  no_part t (part.Naming byte n s) is = naming_asks_look t s (Commit c b) is
-
-  deed_made : (s : Stage) → StageFits z u s m r v → asks_at s m r ≡ Some (Commit c b) → r.change.effects.deed ≡ made_by m.job r.row r.gone
-  deed_made (stage.Finding f) fits is = absurd (ask_looks z (deed_by m.job f r) v (Commit c b) (finding_allowed z u m.job f r v fits (Commit c b) is))
-  deed_made (stage.Placed t p) fits is = absurd (no_part t p is)
-  deed_made (stage.Apply s) fits is = fits.0.deed
-  deed_made (stage.Ended e) fits is = cc
-
-  pub makes_deed : Fits z u m r v → asks m r ≡ Some (Commit c b) → r.change.effects.deed ≡ made_by m.job r.row r.gone
-  makes_deed fits is = deed_made m.stage fits.stage is

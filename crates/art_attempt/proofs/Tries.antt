@@ -1,8 +1,7 @@
 -- What stays as it was while an attempt goes on, and how it ends with an event.
-use Rattle.std.proofs.Common.{◌≡◌, ℕ, ◌++◌, List, Option, [], ◌∷◌, length, refl, sym, ap, ◌∙◌, subst, arith}
+use Rattle.std.proofs.Common.{◌≡◌, ℕ, ◌++◌, List, Option, [], ◌∷◌, length, sym, ap, ◌∙◌, subst, arith}
 use Rattle.art_attempt.specs.Trying.{IsLater, StillTries, WasChecked}
 use Rattle.art_epoch.specs.Taking.{OnlyTakes}
-use Rattle.art_find.specs.Descents.{IsReading}
 use Rattle.art_attempt.specs.Validate.{CheckedSince}
 use Rattle.art_attempt.specs.declared.validate.Cells.{Cells}
 use Rattle.art_epoch.proofs.Stocked.{stock_same}
@@ -73,9 +72,6 @@ still_then u b v before after = record {
 }
 
 module _ (u early : View) (base : StillTries u early) where
-  pub reading_begins : IsReading early early
-  reading_begins = record { only = refl; free = base.free; pinned = base.pinned }
-
   module _ (v : View) (later : IsLater early v) where
     pub still_later : IsLater u v
     still_later = later_then u early v base.later later

@@ -25,7 +25,7 @@ use Rattle.art_attempt.proofs.Standing.{above_after, below_grows, here_after, le
 use Rattle.art_attempt.specs.Naming.{IsBelow, KnowsHere, StillStands}
 use Rattle.art_attempt.specs.Reserve.{StayFound}
 use Rattle.art_attempt.specs.Validate.{BelowFits, CheckedSince, Each, Fits, HasLeft, IsRereading, Knows, KnowsWords, NodeStays, OthersStay, StageFits, Until, RoleWasChecked}
-use Rattle.art_attempt.specs.Validate.{after_check, asks, check_below, checks_of, ended_at, first_check, left_from, next_check, reads_by, reads_of, stamp_above, stamp_below, stamp_of}
+use Rattle.art_attempt.specs.Validate.{after_check, asks, check_below, checks_of, first_check, left_from, next_check, reads_by, reads_of, stamp_above, stamp_below, stamp_of}
 use Rattle.art_attempt.specs.declared.validate.Cells.{Cells}
 use Rattle.art_attempt.specs.declared.validate.Role.{Role}
 use Rattle.art_attempt.specs.declared.validate.Role.TheVariants.{Above, Here, Lower}
@@ -233,9 +233,6 @@ node_run t o Lower read_set read_set' lower lower' others stays not = record {
   whole = λ known. ap node_of others;
 }
 
-pub node_same : (t : Position) (read_set : ReadSet) → NodeStays t read_set read_set
-node_same t read_set = record { stays = λ place word is. is; whole = λ known. refl }
-
 pub node_then : (t : Position) (a b c : ReadSet) → NodeStays t a b → NodeStays t b c → NodeStays t a c
 node_then t a b c first more = record {
   stays = λ place word is. more.stays place word (first.stays place word is);
@@ -379,10 +376,3 @@ module _ (z : Sizes) (k : List ℕ) (t : Position) (o : Cells) (read_set : ReadS
       subst (λ (y : Option Stamp). IfSome (option_map checks_of y) (MayLook z (λ s. ⊤) v)) (sym x.1)
       (check_allowed z v x.0 (cell_known z k t o read_set lower u v fits.0 role x.0 x.1).0)
   allowed (Ended e) fits = tt
-
-  pub asks_some : (m : Validate) → StageFits z k t o m read_set lower u v → ended_at m ≡ None → (a : Action) × (asks t o m ≡ Some a)
-  asks_some (Read role r) fits going =
-      let reading = fits.2 in
-      (action.Read reading.stamp r.place, ap (option_and_then (reads_by r)) reading.is ∙ more_reads reading.stamp r reading.more)
-  asks_some (Check role) fits going = let x = fits.3 in (action.Check x.0, ap (option_map checks_of) x.1)
-  asks_some (Ended e) fits going = cc

@@ -1,7 +1,8 @@
 //! One attempt of a write, step by step.
 ghost use Rattle.std.specs.Prelude.{◌≡◌, ◌≢◌, ℕ, ◌+◌, ◌-◌, ◌<◌, ◌≤◌, length, Some, None, true};
 ghost use Rattle.art_attempt.specs.Asking.{Answers};
-ghost use Rattle.art_attempt.specs.Attempts.{Fits, IsOverlapBy, IsRestartBy, IsRoom, IsSameTry, asks, deed_at, ended_at, found_at, free_at, is_free, steps_left, value_found};
+ghost use Rattle.art_attempt.specs.Attempts.{Fits, IsOverlapBy, IsRestartBy, IsRoom, IsSameTry, asks, deed_at, ended_at, found_at, free_at};
+ghost use Rattle.art_attempt.specs.Attempts.{is_free, steps_left, value_found};
 ghost use Rattle.art_attempt.specs.Trying.{StillTries};
 ghost use Rattle.art_attempt.specs.declared.attempts.Ending.TheVariants.{Restart as anew, Overlaps as overlaps};
 ghost use Rattle.art_epoch.specs.Stocks.{HasStock};
@@ -94,7 +95,6 @@ impl Attempt {
     ghost use Rattle.std.specs.Prelude.{IfSome};
     ghost use Rattle.art_attempt.specs.Asking.{IsAllowed};
     ghost use Rattle.art_attempt.specs.Attempts.{EndsSo};
-    ghost use Rattle.art_attempt.specs.declared.attempts.Job.{Job as JobOf};
     ghost use Rattle.art_attempt.specs.declared.rooms.Room.{Room as RoomOf};
 
     /// At its beginning.

@@ -1,8 +1,7 @@
 //! How an attempt plans its change, and makes it.
 ghost use Rattle.std.specs.Prelude.{◌≡◌, ◌≢◌, ℕ, ◌+◌, ◌-◌, ◌<◌, ◌≤◌, None, Some, true, Result, ⊤};
-ghost use Rattle.art_attempt.specs.Attempts.{EndsWithin, Fits, HasMade, IsRoom, IsSameTry, IsGivenUpBy, IsValidating, MayMake, apply_asks, apply_left};
-ghost use Rattle.art_attempt.specs.Attempts.{ended_at, ended_so, is_free, steps_left};
-ghost use Rattle.art_attempt.specs.Attempts.{given_up, written};
+ghost use Rattle.art_attempt.specs.Attempts.{EndsWithin, Fits, HasMade, IsGivenUpBy, IsRoom, IsSameTry, IsValidating, MayMake, apply_asks};
+ghost use Rattle.art_attempt.specs.Attempts.{apply_left, ended_at, ended_so, given_up, is_free, steps_left, written};
 ghost use Rattle.art_attempt.specs.declared.attempts.Ending.TheVariants.{Restart as anew, Overlaps as overlaps};
 ghost use Rattle.art_attempt.specs.declared.attempts.Stage.TheVariants as stages;
 ghost use Rattle.art_attempt.specs.declared.cases.Case.{Case as CaseOf};

@@ -1,5 +1,5 @@
 //! What an attempt does where its key stands, part by part, before a change is made.
-ghost use Rattle.std.specs.Prelude.{◌≡◌, ◌≢◌, ℕ, ◌+◌, ◌<◌, ◌≤◌, length, None, Some, true, false};
+ghost use Rattle.std.specs.Prelude.{◌≡◌, ◌≢◌, ◌<◌, ◌≤◌, length, Some, true, false};
 ghost use Rattle.art_attempt.specs.Attempts.{Fits, IsSameTry, PartFits, StandsAt, asks, deed_at, ended_at, is_free, part_asks};
 ghost use Rattle.art_attempt.specs.declared.attempts.Ending.TheVariants.{Restart as anew, Overlaps as overlaps};
 ghost use Rattle.art_attempt.specs.declared.attempts.Part.{Part as PartOf};

@@ -1,7 +1,7 @@
 //! How an attempt finds the place of its key, and what the check of that place tells.
-ghost use Rattle.std.specs.Prelude.{◌≡◌, ◌≢◌, ℕ, ◌+◌, ◌<◌, ◌≤◌, None, Some, true, false};
-ghost use Rattle.art_attempt.specs.Attempts.{Fits, IsFinding, IsOverlapBy, IsRoom, IsSameTry, WasPlaced, check_of, deed_by, ended_at, entered_by};
-ghost use Rattle.art_attempt.specs.Attempts.{StandsAt, asks, deed_at, finding_asks, is_free, settles};
+ghost use Rattle.std.specs.Prelude.{◌≡◌, ◌≢◌, ◌+◌, ◌<◌, ◌≤◌, None, Some, true, false};
+ghost use Rattle.art_attempt.specs.Attempts.{Fits, IsFinding, IsOverlapBy, IsRoom, IsSameTry, StandsAt, WasPlaced, asks, check_of};
+ghost use Rattle.art_attempt.specs.Attempts.{deed_at, deed_by, ended_at, entered_by, finding_asks, is_free, settles};
 ghost use Rattle.art_attempt.specs.declared.attempts.Ending.TheVariants.{Restart as anew, Overlaps as overlaps};
 ghost use Rattle.art_attempt.specs.declared.attempts.Job.TheVariants as jobs;
 ghost use Rattle.art_attempt.specs.declared.attempts.Stage.TheVariants as stages;

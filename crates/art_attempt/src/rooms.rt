@@ -2,9 +2,7 @@
 ghost use Rattle.std.specs.Prelude.{◌≡◌, ◌≤◌, Some, length};
 ghost use Rattle.art_attempt.specs.Rooms.{number_for, spent_by};
 ghost use Rattle.art_attempt.specs.Trying.{IsKey};
-ghost use Rattle.art_plan.specs.Changes.{leaf_linked, node_made};
-ghost use Rattle.art_epoch.specs.Stocks.{AreIn, first_hints, nothing};
-ghost use Rattle.art_make.specs.Apply.{linked};
+ghost use Rattle.art_epoch.specs.Stocks.{first_hints, nothing};
 
 use arrayvec::ArrayVec;
 use art_cell::{Body, Layout, Reads, Writes};

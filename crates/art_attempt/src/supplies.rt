@@ -1,7 +1,7 @@
 //! How an attempt brings numbers into the hand, and validates the cells that it writes.
-ghost use Rattle.std.specs.Prelude.{◌≡◌, ◌≢◌, ℕ, ◌+◌, ◌<◌, ◌≤◌, length, None, Some, true, false};
-ghost use Rattle.art_attempt.specs.Attempts.{EndsWithin, Fits, HasSupplies, IsKnown, IsRoom, IsSameTry, IsValidating, StandsAt, WantsNumbers, deed_at};
-ghost use Rattle.art_attempt.specs.Attempts.{asks, ended_at, is_free, supply_asks, validate_asks};
+ghost use Rattle.std.specs.Prelude.{◌≡◌, ◌≢◌, ◌<◌, ◌≤◌, length, None, Some, true, false};
+ghost use Rattle.art_attempt.specs.Attempts.{EndsWithin, Fits, HasSupplies, IsKnown, IsRoom, IsSameTry, IsValidating, StandsAt};
+ghost use Rattle.art_attempt.specs.Attempts.{WantsNumbers, asks, deed_at, ended_at, is_free, supply_asks, validate_asks};
 ghost use Rattle.art_attempt.specs.Cases.{IsCaseOf, cells_of};
 ghost use Rattle.art_attempt.specs.Parts.{PartKnows, validated_in};
 ghost use Rattle.art_attempt.specs.declared.attempts.Ending.TheVariants.{Restart as anew, Overlaps as overlaps};

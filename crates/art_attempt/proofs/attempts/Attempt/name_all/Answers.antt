@@ -1,18 +1,24 @@
 -- The steps are those of the naming.
-use Rattle.std.proofs.Common.{◌∙◌, Some, ap, sym, subst, arith}
+use Rattle.std.proofs.Common.{◌≡◌, ◌∙◌, Option, Some, ap, sym, subst, arith}
 use Rattle.std.specs.Prelude.{⊤}
 use Rattle.art_attempt.proofs.Stages.{asks_part, at_part, same_on}
-use Rattle.art_attempt.specs.Attempts.{Fits, deed_at}
+use Rattle.art_attempt.specs.Attempts.{Fits, deed_at, naming_asks}
 use Rattle.art_attempt.specs.declared.attempts.Part.{Part}
 use Rattle.art_attempt.specs.declared.attempts.Part.TheVariants as parts
 use Rattle.art_attempt.specs.declared.attempts.Stage.TheVariants as stages
 use Rattle.art_attempt.proofs.Asked.{naming_asks_look}
+use Rattle.art_attempt.specs.declared.naming.Naming.{Naming}
 use Rattle.art_find.specs.Asking.{MayLook}
+use Rattle.art_find.specs.declared.findings.Position.{Position}
 use Rattle.art_machine.proofs.Counting.{look_counts}
 use Rattle.art_machine.specs.Acting.{Answers, telling}
+use Rattle.art_machine.specs.declared.actions.Action.{Action}
 use Rattle.art_step.specs.declared.views.Sizes.{Sizes}
 use Rattle.art_step.specs.declared.views.View.{View}
 use Rattle.art_attempt.proofs.attempts.Attempt.name_all.Goals as goal
+
+asks_name : (o : Option Action) (t : Position) (s : Naming) (a : Action) → o ≡ naming_asks t s → o ≡ Some a → naming_asks t s ≡ Some a
+asks_name o t s a e is = sym e ∙ is
 
 pub look-requires : goal.look-requires
 look-requires g c =
@@ -43,7 +49,7 @@ name_told-requires-clause-told g c =
     let d = deed_at m r in
     let a = c.in-Some.asked in
     let row : Answers z (telling d) a c.in-Some-look.answer v w = subst (λ (y : Sizes). Answers y (telling d) a c.in-Some-look.answer v w) i.sizes (c.in-Some-look.ensures.row d) in
-    (z, i.here.0, v, w, a, i.here.1, asks_part m r c.in-Placed.position c.in-Placed.part (parts.Naming c.in-Naming.byte c.in-Naming.node c.in-Naming.naming) c.in-Placed.is c.in-Naming.is (Some a) (sym c.next.ensures.asks ∙ c.in-Some.is), row)
+    (z, i.here.0, v, w, a, i.here.1, asks_part m r c.in-Placed.position c.in-Placed.part (parts.Naming c.in-Naming.byte c.in-Naming.node c.in-Naming.naming) c.in-Placed.is c.in-Naming.is (Some a) (asks_name c.next.result c.in-Placed.position c.in-Naming.naming a c.next.ensures.asks c.in-Some.is), row)
 
 pub loop-left-preserved : goal.loop-left-preserved
 loop-left-preserved g c =
@@ -58,7 +64,7 @@ loop-left-preserved g c =
     let d = deed_at m r in
     let a = c.in-Some.asked in
     let row : Answers z (telling d) a c.in-Some-look.answer v w = subst (λ (y : Sizes). Answers y (telling d) a c.in-Some-look.answer v w) i.sizes (c.in-Some-look.ensures.row d) in
-    let is = sym c.next.ensures.asks ∙ c.in-Some.is in
+    let is = asks_name c.next.result c.in-Placed.position c.in-Naming.naming a c.next.ensures.asks c.in-Some.is in
     let one = (look_counts z d a c.in-Some-look.answer v w (naming_asks_look c.in-Placed.position c.in-Naming.naming a is) row).steps in
     let on : (u : View) → Fits z u m r v → Fits z u c.name_told.new.self c.name_told.new.room w = λ u fits.
     c.name_told.ensures.fits z u v w a fits (asks_part m r c.in-Placed.position c.in-Placed.part (parts.Naming c.in-Naming.byte c.in-Naming.node c.in-Naming.naming) c.in-Placed.is c.in-Naming.is (Some a) is) row in
