@@ -39,7 +39,7 @@ module _ (z : Sizes) (u : View) (ps : List Place) (m : Write) (r : Room) (qs : L
   pub left_opened : (x : Exit) (o : Outcome) (k : IsExiting z u ps m x o r qs v) → IsLeft z k.opened m.job (record r { stock = k.stock }) o k.ended
   left_opened x o k =
       left_since z k.opened k.began k.begun.base m.job (record r { stock = k.stock }) o k.ended
-      (left_by z k.began (record r { stock = k.stock }) k.ended m.job k.position k.case o m.left k.outcome)
+      (left_by z k.began (record r { stock = k.stock }) k.ended m.job o m.left k.outcome)
 
   exit_answers : (o : Outcome) → IsExiting z u ps m exit.Ended o r qs v → HasAnswered z u m.job o r.row.key r.row.value qs v
   exit_answers o k =

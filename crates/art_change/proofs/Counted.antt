@@ -36,7 +36,7 @@ module _ (z : Sizes) (u : View) (ps : List Place) (m : Write) (r : Room) (qs : L
         }
 
     -- an outcome that says so came at the last turn
-    at_last : (a : Outcome) → OutcomeBy z k.began m.job k.position k.case (record r { stock = k.stock }) a m.left k.ended → a ≡ Busy → UsedTurns z u m.turns v
+    at_last : (a : Outcome) → OutcomeBy z k.began m.job (record r { stock = k.stock }) a m.left k.ended → a ≡ Busy → UsedTurns z u m.turns v
     at_last Busy h busy = used_turns h.0 h.1
     at_last New h busy = cc
     at_last (Present stands) h busy = cc
@@ -51,7 +51,7 @@ module _ (z : Sizes) (u : View) (ps : List Place) (m : Write) (r : Room) (qs : L
     exit_counted = record {
       failed =
           let failed = k.begun.failed in
-          let more = (left_by z k.began (record r { stock = k.stock }) k.ended m.job k.position k.case o m.left k.outcome).later.failures in
+          let more = (left_by z k.began (record r { stock = k.stock }) k.ended m.job o m.left k.outcome).later.failures in
           let first = opened_failures in
           let last = closed_failures in
           omega (arith, failed, more, first, last);

@@ -115,20 +115,21 @@ module _ (z : Sizes) (u : View) (r : Room) (v : View) where
     tells = subst (λ (o : Option Deed). SeesEvent u v o) (sym tells) h.event;
   }
 
-  pub left_by : (j : Job) (t : Position) (c : Case) (o : Outcome) (left : ℕ) → OutcomeBy z u j t c r o left v → IsLeft z u j r o v
-  left_by Insert t c New left h = written_left Insert New t c h.1 refl h.1.event
-  left_by Insert t c (Present stands) left h = settled_left Insert (Present stands) _ h.1 refl refl
-  left_by Remove t c (Gone value) left h = written_left Remove (Gone value) t c h.1 refl (subst (λ (n : ℕ). SeesEvent u v (told_by (Gone n) Remove r.row.key r.row.value)) h.2 h.1.event)
-  left_by Remove t c Absent left h = settled_left Remove Absent _ h.1 refl refl
-  left_by Remove t c New left h = let no = h.0 in cc
-  left_by Remove t c (Present stands) left h = let no = h.0 in cc
-  left_by Insert t c (Gone value) left h = let no = h.0 in cc
-  left_by Insert t c Absent left h = let no = h.0 in cc
-  left_by j t c (Full pool) left h = so_left j (Full pool) refl refl h.1
-  left_by j t c (Exhausted x) left h = so_left j (Exhausted x) refl refl h.0
-  left_by j t c Overlaps left h = so_left j Overlaps refl refl h.1
-  left_by j t c Busy left h = so_left j Busy refl refl h.0
-  left_by j t c (Crowded b) left h = absurd h
+  pub left_by : (j : Job) (o : Outcome) (left : ℕ) → OutcomeBy z u j r o left v → IsLeft z u j r o v
+  left_by Insert New left h = written_left Insert New h.position h.case h.ends.1 refl h.ends.1.event
+  left_by Insert (Present stands) left h = settled_left Insert (Present stands) _ h.ends.1 refl refl
+  left_by Remove (Gone value) left h =
+      written_left Remove (Gone value) h.position h.case h.ends.1 refl (subst (λ (n : ℕ). SeesEvent u v (told_by (Gone n) Remove r.row.key r.row.value)) h.ends.2 h.ends.1.event)
+  left_by Remove Absent left h = settled_left Remove Absent _ h.ends.1 refl refl
+  left_by Remove New left h = let no = h.ends.0 in cc
+  left_by Remove (Present stands) left h = let no = h.ends.0 in cc
+  left_by Insert (Gone value) left h = let no = h.ends.0 in cc
+  left_by Insert Absent left h = let no = h.ends.0 in cc
+  left_by j (Full pool) left h = so_left j (Full pool) refl refl h.ends.1
+  left_by j (Exhausted x) left h = so_left j (Exhausted x) refl refl h.ends.0
+  left_by j Overlaps left h = so_left j Overlaps refl refl h.ends.1
+  left_by j Busy left h = so_left j Busy refl refl h.0
+  left_by j (Crowded b) left h = absurd h
 
 -- what an attempt left that began later is left since the pass was pinned
 module _ (z : Sizes) (u b : View) (base : StillTries u b) where

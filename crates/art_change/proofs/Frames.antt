@@ -3,7 +3,7 @@ use Rattle.std.proofs.Common.{◌≡◌, ℕ, ◌+◌, ◌-◌, ◌<◌, ◌≤�
 use Rattle.std.proofs.lemmas.Bool.{cases_Bool, eqb-true}
 use Rattle.std.proofs.lemmas.Option.{same_Some}
 use Rattle.art_attempt.proofs.Tries.{later_first, still_then}
-use Rattle.art_attempt.specs.Attempts.{EndsBy, EndsSo, HasHand, IsRoom, ended_left, tries_left}
+use Rattle.art_attempt.specs.Attempts.{EndFits, EndsSo, HasHand, IsRoom, ended_left, tries_left}
 use Rattle.art_attempt.specs.Trying.{StillTries}
 use Rattle.art_attempt.specs.declared.rooms.Room.{Room}
 use Rattle.art_change.proofs.Endings.{left_by, left_since}
@@ -12,8 +12,6 @@ use Rattle.art_change.specs.Writes.{Answers, Fits, HasBegun, StageFits, asks, as
 use Rattle.art_attempt.specs.declared.attempts.Job.{Job}
 use Rattle.art_attempt.specs.declared.attempts.Ending.{Ending}
 use Rattle.art_attempt.specs.declared.attempts.Ending.TheVariants as ending
-use Rattle.art_attempt.specs.declared.cases.Case.{Case}
-use Rattle.art_find.specs.declared.findings.Position.{Position}
 use Rattle.art_change.specs.declared.writes.Stage.{Stage}
 use Rattle.art_change.specs.declared.writes.Stage.TheVariants as stages
 use Rattle.art_change.specs.declared.writes.Write.{Write}
@@ -129,10 +127,10 @@ links_fewer : (words : List ℕ) → length (links_of words) ≤ length words
 links_fewer [] = omega arith
 links_fewer (word ∷ words) = let rest = links_fewer words in let one = cons_more (link_of word) (links_of words) in omega (arith, rest, one)
 
-pub may_close : (z : Sizes) (u opened began : View) (ps qs : List Place) → IsOpened z u opened ps qs → StillTries opened began → (j : Job) (t : Position) (c : Case) (r : Room) (v : View) (o : Outcome) (left : ℕ)
-    → OutcomeBy z began j t c r o left v → length (gone_by o r.change) ≤ 3 → MayClose z r.row.key.items r.row.value v qs (links_of (gone_by o r.change)) r.stock
-may_close z u opened began ps qs frame base j t c r v o left h few =
-    let end = left_since z opened began base j r o v (left_by z began r v j t c o left h) in
+pub may_close : (z : Sizes) (u opened began : View) (ps qs : List Place) → IsOpened z u opened ps qs → StillTries opened began → (j : Job) (r : Room) (v : View) (o : Outcome) (left : ℕ)
+    → OutcomeBy z began j r o left v → length (gone_by o r.change) ≤ 3 → MayClose z r.row.key.items r.row.value v qs (links_of (gone_by o r.change)) r.stock
+may_close z u opened began ps qs frame base j r v o left h few =
+    let end = left_since z opened began base j r o v (left_by z began r v j o left h) in
     record {
       free = end.free;
       stock = end.has;
@@ -142,9 +140,9 @@ may_close z u opened began ps qs frame base j t c r v o left h few =
 
 -- ---- how the write ends by how an attempt did
 
-module _ (z : Sizes) (u : View) (j : Job) (t : Position) (c : Case) (r : Room) (left : ℕ) (v : View) where
+module _ (z : Sizes) (u : View) (j : Job) (r : Room) (left : ℕ) (v : View) where
   abbrev Ends : Outcome → Type 0
-  Ends o = OutcomeBy z u j t c r o left v
+  Ends o = OutcomeBy z u j r o left v
 
   or_busy_ends : (o : Outcome) → EndsSo z u r v → Ends o → Ends (or_busy left o)
   or_busy_ends o so ends = ⊎_elim
@@ -152,18 +150,18 @@ module _ (z : Sizes) (u : View) (j : Job) (t : Position) (c : Case) (r : Room) (
       (λ (e : (left == 0) ≡ false). rw e ends)
       (cases_Bool (left == 0))
 
-  pub outcome_ends : (e : Ending) (o : Outcome) → EndsBy z u j t c r e v → outcome_of left e ≡ Some o → Ends o
+  pub outcome_ends : (e : Ending) (o : Outcome) → EndFits z u j r e v → outcome_of left e ≡ Some o → Ends o
   outcome_ends ending.New o fits is = subst Ends (same_Some {A = Outcome} New o is) fits
   outcome_ends (ending.Present stands) o fits is = subst Ends (same_Some {A = Outcome} (Present stands) o is) fits
   outcome_ends (ending.Gone value) o fits is = subst Ends (same_Some {A = Outcome} (Gone value) o is) fits
   outcome_ends ending.Absent o fits is = subst Ends (same_Some {A = Outcome} Absent o is) fits
-  outcome_ends (ending.Full pool) o fits is = subst Ends (same_Some {A = Outcome} (or_busy left (Full pool)) o is) (or_busy_ends (Full pool) fits.1 fits)
+  outcome_ends (ending.Full pool) o fits is = subst Ends (same_Some {A = Outcome} (or_busy left (Full pool)) o is) (or_busy_ends (Full pool) fits.ends.1 fits)
   outcome_ends (ending.Exhausted x) o fits is = subst Ends (same_Some {A = Outcome} (Exhausted x) o is) fits
-  outcome_ends ending.Overlaps o fits is = subst Ends (same_Some {A = Outcome} (or_busy left Overlaps) o is) (or_busy_ends Overlaps fits.1 fits)
+  outcome_ends ending.Overlaps o fits is = subst Ends (same_Some {A = Outcome} (or_busy left Overlaps) o is) (or_busy_ends Overlaps fits.ends.1 fits)
   outcome_ends ending.Restart o fits is = cc
 
   -- it is tried anew
-  pub anew_ends : (e : Ending) → EndsBy z u j t c r e v → outcome_of left e ≡ None → EndsSo z u r v × (u.failures < v.failures)
+  pub anew_ends : (e : Ending) → EndFits z u j r e v → outcome_of left e ≡ None → EndsSo z u r v × (u.failures < v.failures)
   anew_ends ending.New fits is = cc
   anew_ends (ending.Present stands) fits is = cc
   anew_ends (ending.Gone value) fits is = cc
@@ -171,7 +169,7 @@ module _ (z : Sizes) (u : View) (j : Job) (t : Position) (c : Case) (r : Room) (
   anew_ends (ending.Full pool) fits is = cc
   anew_ends (ending.Exhausted x) fits is = cc
   anew_ends ending.Overlaps fits is = cc
-  anew_ends ending.Restart fits is = fits
+  anew_ends ending.Restart fits is = fits.ends
 
 pub none_anew : (left : ℕ) (e : Ending) → outcome_of left e ≡ None → e ≡ ending.Restart
 none_anew left ending.Restart is = refl
@@ -196,17 +194,17 @@ begins_going [] = refl
 begins_going (word ∷ words) = refl
 
 -- an outcome that an attempt had is not that limbo was crowded
-pub done_by : (z : Sizes) (u opened v : View) (ps : List Place) (j : Job) (t : Position) (c : Case) (r : Room) (o : Outcome) (left : ℕ) (m : Write) (s : Room) (qs : List Place) (w : View)
-    → OutcomeBy z opened j t c r o left v → IsExiting z u ps m exit.Ended o s qs w → IsDone z u ps o m s qs w
-done_by z u opened v ps j t c r New left m s qs w h done = done
-done_by z u opened v ps j t c r (Present stands) left m s qs w h done = done
-done_by z u opened v ps j t c r (Gone value) left m s qs w h done = done
-done_by z u opened v ps j t c r Absent left m s qs w h done = done
-done_by z u opened v ps j t c r (Full pool) left m s qs w h done = done
-done_by z u opened v ps j t c r (Exhausted x) left m s qs w h done = done
-done_by z u opened v ps j t c r Overlaps left m s qs w h done = done
-done_by z u opened v ps j t c r Busy left m s qs w h done = done
-done_by z u opened v ps j t c r (Crowded b) left m s qs w h done = absurd h
+pub done_by : (z : Sizes) (u opened v : View) (ps : List Place) (j : Job) (r : Room) (o : Outcome) (left : ℕ) (m : Write) (s : Room) (qs : List Place) (w : View)
+    → OutcomeBy z opened j r o left v → IsExiting z u ps m exit.Ended o s qs w → IsDone z u ps o m s qs w
+done_by z u opened v ps j r New left m s qs w h done = done
+done_by z u opened v ps j r (Present stands) left m s qs w h done = done
+done_by z u opened v ps j r (Gone value) left m s qs w h done = done
+done_by z u opened v ps j r Absent left m s qs w h done = done
+done_by z u opened v ps j r (Full pool) left m s qs w h done = done
+done_by z u opened v ps j r (Exhausted x) left m s qs w h done = done
+done_by z u opened v ps j r Overlaps left m s qs w h done = done
+done_by z u opened v ps j r Busy left m s qs w h done = done
+done_by z u opened v ps j r (Crowded b) left m s qs w h done = absurd h
 
 -- one that has ended
 pub ended_is : (x : Exit) → is_ended x ≡ true → x ≡ exit.Ended

@@ -15,8 +15,6 @@ use Rattle.art_change.specs.Writes.{Fits, HoldsOrTold, OutcomeBy, IsExiting, IsD
 use Rattle.art_attempt.specs.declared.attempts.Job.{Job}
 use Rattle.art_attempt.specs.declared.attempts.Stage.{Stage as AttemptStage}
 use Rattle.art_attempt.specs.declared.attempts.Stage.TheVariants as attempt
-use Rattle.art_attempt.specs.declared.cases.Case.{Case}
-use Rattle.art_find.specs.declared.findings.Position.{Position}
 use Rattle.art_attempt.specs.declared.attempts.Job.TheVariants.{Insert, Remove}
 use Rattle.art_attempt.specs.declared.attempts.Attempt.{Attempt}
 use Rattle.art_change.specs.declared.writes.Outcome.{Outcome}
@@ -117,27 +115,27 @@ module _ (z : Sizes) (k : List ℕ) (value : ℕ) (u v : View) (ps qs : List Pla
   close_tells exit.Ended fits = (ap (λ (t : View). t.seen) fits.0.is, ap (λ (t : View). t.own) fits.0.is)
 
 -- what is no refusal was told
-told_of : (z : Sizes) (u : View) (j : Job) (t : Position) (c : Case) (r : Room) (o : Outcome) (left : ℕ) (v : View) (k : ArrayVec ℕ) (value : ℕ) → OutcomeBy z u j t c r o left v
+told_of : (z : Sizes) (u : View) (j : Job) (r : Room) (o : Outcome) (left : ℕ) (v : View) (k : ArrayVec ℕ) (value : ℕ) → OutcomeBy z u j r o left v
     → is_refusal o ≡ false → (what : Deed) × (told_by o j k value ≡ Some what)
-told_of z u Insert t c r New left v k value fits untold = (_, refl)
-told_of z u Insert t c r (Present stands) left v k value fits untold = (_, refl)
-told_of z u Remove t c r (Gone had) left v k value fits untold = (_, refl)
-told_of z u Remove t c r Absent left v k value fits untold = (_, refl)
-told_of z u Insert t c r (Gone had) left v k value fits untold = let no = fits.0 in cc
-told_of z u Insert t c r Absent left v k value fits untold = let no = fits.0 in cc
-told_of z u Remove t c r New left v k value fits untold = let no = fits.0 in cc
-told_of z u Remove t c r (Present stands) left v k value fits untold = let no = fits.0 in cc
-told_of z u j t c r (Full pool) left v k value fits untold = cc
-told_of z u j t c r (Exhausted x) left v k value fits untold = cc
-told_of z u j t c r Overlaps left v k value fits untold = cc
-told_of z u j t c r Busy left v k value fits untold = cc
-told_of z u j t c r (Crowded b) left v k value fits untold = cc
+told_of z u Insert r New left v k value fits untold = (_, refl)
+told_of z u Insert r (Present stands) left v k value fits untold = (_, refl)
+told_of z u Remove r (Gone had) left v k value fits untold = (_, refl)
+told_of z u Remove r Absent left v k value fits untold = (_, refl)
+told_of z u Insert r (Gone had) left v k value fits untold = let no = fits.ends.0 in cc
+told_of z u Insert r Absent left v k value fits untold = let no = fits.ends.0 in cc
+told_of z u Remove r New left v k value fits untold = let no = fits.ends.0 in cc
+told_of z u Remove r (Present stands) left v k value fits untold = let no = fits.ends.0 in cc
+told_of z u j r (Full pool) left v k value fits untold = cc
+told_of z u j r (Exhausted x) left v k value fits untold = cc
+told_of z u j r Overlaps left v k value fits untold = cc
+told_of z u j r Busy left v k value fits untold = cc
+told_of z u j r (Crowded b) left v k value fits untold = cc
 
 module _ (z : Sizes) (u : View) (ps : List Place) (m : Write) (r : Room) (qs : List Place) (v : View) where
   exit_told : (x : Exit) (o : Outcome) → IsExiting z u ps m x o r qs v → is_refusal o ≡ false → HoldsOrTold u v
   exit_told x o k untold =
       let same = close_tells z r.row.key.items r.row.value k.ended v k.waiting qs (links_of (gone_by o r.change)) r.stock x k.fits in
-      let told = told_of z k.began m.job k.position k.case (record r { stock = k.stock }) o m.left k.ended r.row.key r.row.value k.outcome untold in
+      let told = told_of z k.began m.job (record r { stock = k.stock }) o m.left k.ended r.row.key r.row.value k.outcome untold in
       let sees = sees_all u k.opened k.ended v (ap (λ (t : View). t.seen) k.frame.frame.is) (ap (λ (t : View). t.own) k.frame.frame.is) (ap (λ (t : View). t.pass) k.frame.frame.is)
       same.0 same.1 (told_by o m.job r.row.key r.row.value) (left_opened z u ps m r qs v x o k).tells in
       inr (told.0, subst (SeesEvent u v) told.1 sees)

@@ -3,7 +3,6 @@ pub use Rattle.art_attempt.proofs as ArtAttempt
 pub use Rattle.art_attempt.proofs.ArtPlan
 pub use Rattle.art_find.proofs as ArtFind
 pub mod Answered
-mod AnyPlaces
 mod Causes
 pub mod Counted
 pub mod Endings

@@ -3,7 +3,7 @@ use Rattle.std.specs.Prelude.{◌≡◌, ◌≢◌, ◌⊎◌, ℕ, ◌+◌, ◌
 use Rattle.arrayvec.specs.ArrayVec.{ArrayVec}
 use Rattle.art_attempt.specs.Attempts as attempts
 use Rattle.art_attempt.specs.Asking as asking
-use Rattle.art_attempt.specs.Attempts.{EndsBy, EndsSo, GoesBy, HasHand, IsExhausted, IsFull, IsOverlap, IsRoom, absent, present, tries_left}
+use Rattle.art_attempt.specs.Attempts.{EndFits, EndsSo, GoesBy, HasHand, IsExhausted, IsFull, IsOverlap, IsRoom, absent, present, tries_left}
 use Rattle.art_attempt.specs.Trying.{IsLimited, StillTries}
 use Rattle.art_attempt.specs.declared.cases.Case.{Case}
 use Rattle.art_attempt.specs.declared.rooms.Room.{Room}
@@ -160,17 +160,18 @@ told_by (Gone had) job.Remove k value = Some (removed (leaf_of k had))
 told_by Absent job.Remove k value = Some (absent (row_of k value))
 told_by o j k value = None
 
--- how it stands when the last attempt has ended, of a pass that had the view u when that began; so many turns are left
-abbrev pub OutcomeBy : Sizes → View → Job → Position → Case → Room → Outcome → ℕ → View → Type 0
-OutcomeBy z u j t c r New left v = EndsBy z u j t c r ending.New v
-OutcomeBy z u j t c r (Present stands) left v = EndsBy z u j t c r (ending.Present stands) v
-OutcomeBy z u j t c r (Gone value) left v = EndsBy z u j t c r (ending.Gone value) v
-OutcomeBy z u j t c r Absent left v = EndsBy z u j t c r ending.Absent v
-OutcomeBy z u j t c r (Full pool) left v = EndsBy z u j t c r (ending.Full pool) v
-OutcomeBy z u j t c r (Exhausted x) left v = EndsBy z u j t c r (ending.Exhausted x) v
-OutcomeBy z u j t c r Overlaps left v = EndsBy z u j t c r ending.Overlaps v
-OutcomeBy z u j t c r Busy left v = EndsSo z u r v × (left ≡ 0)
-OutcomeBy z u j t c r (Crowded b) left v = ⊥
+-- how it stands when the last attempt has ended, of a pass that had the view u when that began; so many turns are left. An end speaks of a
+-- place and a case; that no turn is left is said of none
+abbrev pub OutcomeBy : Sizes → View → Job → Room → Outcome → ℕ → View → Type 0
+OutcomeBy z u j r New left v = EndFits z u j r ending.New v
+OutcomeBy z u j r (Present stands) left v = EndFits z u j r (ending.Present stands) v
+OutcomeBy z u j r (Gone value) left v = EndFits z u j r (ending.Gone value) v
+OutcomeBy z u j r Absent left v = EndFits z u j r ending.Absent v
+OutcomeBy z u j r (Full pool) left v = EndFits z u j r (ending.Full pool) v
+OutcomeBy z u j r (Exhausted x) left v = EndFits z u j r (ending.Exhausted x) v
+OutcomeBy z u j r Overlaps left v = EndFits z u j r ending.Overlaps v
+OutcomeBy z u j r Busy left v = EndsSo z u r v × (left ≡ 0)
+OutcomeBy z u j r (Crowded b) left v = ⊥
 
 -- ---- what it knows, of a pass that had the view u when it began, where ps waited
 
@@ -220,8 +221,7 @@ pub record IsTrying (z : Sizes) (u : View) (ps : List Place) (m : Write) (t : At
 abbrev pub HasTurn : ℕ → Attempt → Type 0
 HasTurn left t = attempts.is_free t ≡ true → 0 < left
 
--- the last attempt has ended, when these numbers were in hand and those places waited; the key stood there for it, and this was its case,
--- where the outcome speaks of them
+-- the last attempt has ended as the outcome says, when these numbers were in hand and those places waited
 pub record IsExiting (z : Sizes) (u : View) (ps : List Place) (m : Write) (x : Exit) (o : Outcome) (r : Room) (qs : List Place) (v : View)
     : Type 0 where
   pub opened : View
@@ -229,11 +229,9 @@ pub record IsExiting (z : Sizes) (u : View) (ps : List Place) (m : Write) (x : E
   pub ended : View
   pub stock : Stock
   pub waiting : List Place
-  pub position : Position
-  pub case : Case
   pub frame : WasOpened z u opened ps waiting
   pub begun : HasBegun z opened m.restarts began
-  pub outcome : OutcomeBy z began m.job position case (record r { stock = stock }) o m.left ended
+  pub outcome : OutcomeBy z began m.job (record r { stock = stock }) o m.left ended
   pub later : ended.steps ≤ v.steps
   pub counted : opened.steps + m.turns ≤ ended.steps + m.left
   pub fits : ExitFits z r.row.key.items r.row.value ended waiting (links_of (gone_by o r.change)) x qs r.stock v
@@ -315,11 +313,18 @@ IsCause z u j t c r Absent v = ⊤
 IsCause z u j t c r Busy v = ⊤
 IsCause z u j t c r (Crowded b) v = ⊤
 
--- by where the key stood for its last attempt, and by the case of that, where one was made
+-- by where the key stood for its last attempt, and by the case of that, where its end speaks of them
 abbrev pub HasCause : (z : Sizes) (u : View) (ps : List Place) (o : Outcome) (m : Write) (r : Room) (qs : List Place) (v : View) →
     IsDone z u ps o m r qs v → Type 0
+HasCause z u ps New m r qs v done = IsCause z u m.job done.outcome.position done.outcome.case r New v
+HasCause z u ps (Gone value) m r qs v done = IsCause z u m.job done.outcome.position done.outcome.case r (Gone value) v
+HasCause z u ps (Full pool) m r qs v done = IsCause z u m.job done.outcome.position done.outcome.case r (Full pool) v
+HasCause z u ps (Exhausted x) m r qs v done = IsCause z u m.job done.outcome.position done.outcome.case r (Exhausted x) v
+HasCause z u ps Overlaps m r qs v done = IsCause z u m.job done.outcome.position done.outcome.case r Overlaps v
+HasCause z u ps (Present stands) m r qs v done = ⊤
+HasCause z u ps Absent m r qs v done = ⊤
+HasCause z u ps Busy m r qs v done = ⊤
 HasCause z u ps (Crowded b) m r qs v done = ⊤
-HasCause z u ps o m r qs v done = IsCause z u m.job done.position done.case r o v
 
 -- it ended so, with what its outcome came of: as a machine of this job has it that was run to its end, with these turns and restarts
 pub record HasGround (z : Sizes) (u : View) (j : Job) (ps : List Place) (turns restarts : ℕ) (o : Outcome) (r : Room) (qs : List Place)

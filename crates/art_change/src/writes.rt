@@ -1,9 +1,8 @@
 //! A write, step by step: its opening, its attempts, its close.
 ghost use Rattle.std.specs.Prelude.{◌≡◌, ◌≢◌, ◌⊎◌, ℕ, ◌+◌, ◌-◌, ◌<◌, ◌≤◌, List, [], length, Some, None, true, false};
-ghost use Rattle.art_attempt.specs.Attempts.{EndsBy, HasHand, IsRoom, ended_left, tries_left};
+ghost use Rattle.art_attempt.specs.Attempts.{EndFits, HasHand, IsRoom, ended_left, tries_left};
 ghost use Rattle.art_attempt.specs.declared.attempts.Attempt.{Attempt as AttemptOf};
 ghost use Rattle.art_attempt.specs.declared.attempts.Ending.TheVariants.{Restart as anew, Overlaps as attempt_overlaps};
-ghost use Rattle.art_attempt.specs.declared.cases.Case.{Case as CaseOf};
 ghost use Rattle.art_attempt.specs.declared.rooms.Room.{Room as RoomOf};
 ghost use Rattle.art_change.specs.Writes.{Answers, Fits, HasAnswered, HasBegun, HasCounted, HasGround, IsAllowed, IsApart, IsReady, IsSameWrite, IsTrying, MayWrite, OutcomeBy, OverlapsBy, RestartsBy, SameRow, WasOpened};
 ghost use Rattle.art_change.specs.Writes.{HoldsOrTold, WillRefuse, freed_by, given, is_refusal, turns_used};
@@ -17,7 +16,6 @@ ghost use Rattle.art_epoch.specs.Enter.{asks as enter_asks};
 ghost use Rattle.art_epoch.specs.declared.enter.Enter.{Enter as EnterOf};
 ghost use Rattle.art_epoch.specs.declared.exit.Exit.{Exit as ExitOf};
 ghost use Rattle.art_epoch.specs.declared.stocks.Stock.{Stock as StockOf};
-ghost use Rattle.art_find.specs.declared.findings.Position.{Position as PositionOf};
 ghost use Rattle.art_machine.specs.Acting.{IsAllowed as IsActionAllowed, PassesAmong};
 ghost use Rattle.art_machine.specs.declared.actions.Action.{Action as ActionOf};
 ghost use Rattle.art_step.specs.declared.views.Sizes.{Sizes};
@@ -323,9 +321,9 @@ impl Write {
         ensures restarts { self.new.restarts ≡ self.old.restarts }
         ensures outcome { outcome_in self.new.stage ≡ Some outcome }
         ensures left { (qs : List Place) → steps_left self.new room.now qs ≤ 7 }
-        ensures fits { (z : Sizes) (u opened began v : View) (ps qs : List Place) (p : PositionOf) (k : CaseOf) → IsRoom z room.now →
+        ensures fits { (z : Sizes) (u opened began v : View) (ps qs : List Place) → IsRoom z room.now →
             WasOpened z u opened ps qs → HasBegun z opened self.old.restarts began →
-            OutcomeBy z began self.old.job p k room.now outcome self.old.left v →
+            OutcomeBy z began self.old.job room.now outcome self.old.left v →
             opened.steps + self.old.turns ≤ v.steps + self.old.left → Fits z u ps self.new room.now qs v }
     {
         let exit = Exit::new(gone_by(outcome, &room.change));
@@ -494,9 +492,9 @@ impl Write {
         ensures restarts { (self.new.restarts ≡ self.old.restarts) ⊎ (ending ≡ anew) }
         ensures overlaps { outcome_in self.new.stage ≡ Some overlaps → ending ≡ attempt_overlaps }
         ensures left { (qs : List Place) → steps_left self.new room.now qs ≤ ended_left self.old.left ending + 7 }
-        ensures fits { (z : Sizes) (u opened began v : View) (ps qs : List Place) (p : PositionOf) (k : CaseOf) → IsRoom z room.now →
+        ensures fits { (z : Sizes) (u opened began v : View) (ps qs : List Place) → IsRoom z room.now →
             WasOpened z u opened ps qs → HasBegun z opened self.old.restarts began →
-            EndsBy z began self.old.job p k room.now ending v →
+            EndFits z began self.old.job room.now ending v →
             opened.steps + self.old.turns ≤ v.steps + self.old.left → Fits z u ps self.new room.now qs v }
     {
         match outcome_of(self.left, ending) {

@@ -74,7 +74,7 @@ module _ (z : Sizes) (u : View) (ps : List Place) (n : Write) (r : Room) (qs : L
   exit_failed : (x : Exit) (o : WriteOutcome) → IsExiting z u ps n x o r qs v → u.failures + n.restarts ≤ v.failures
   exit_failed x o k =
       let failed = k.begun.failed in
-      let more = (left_by z k.began (record r { stock = k.stock }) k.ended n.job k.position k.case o n.left k.outcome).later.failures in
+      let more = (left_by z k.began (record r { stock = k.stock }) k.ended n.job o n.left k.outcome).later.failures in
       let first = ap (λ (x : View). x.failures) k.frame.frame.is in
       let last = exit_same z r.row.key.items r.row.value k.ended v k.waiting qs (links_of (gone_by o r.change)) r.stock x k.fits in
       omega (arith, failed, more, first, last)

@@ -6,10 +6,10 @@ use Rattle.art_epoch.specs.declared.exit.Exit.{Exit}
 use Rattle.art_step.specs.Tokens.{links_of}
 
 pub returns-clause-fits : goal.returns-clause-fits
-returns-clause-fits c z u opened began v ps qs p k room frame begun outcome counted =
+returns-clause-fits c z u opened began v ps qs room frame begun outcome counted =
     let m = c.args.self.now in
     let r = c.args.room.now in
-    let may = may_close z u opened began ps qs frame.frame begun.base m.job p k r v c.args.outcome m.left outcome (subst (λ (words : List ℕ). length words ≤ 3) c.gone_by.ensures.words c.gone_by.ensures.few) in
+    let may = may_close z u opened began ps qs frame.frame begun.base m.job r v c.args.outcome m.left outcome (subst (λ (words : List ℕ). length words ≤ 3) c.gone_by.ensures.words c.gone_by.ensures.few) in
     let fits = c.new-exit.ensures.fits z r.row.key.items r.row.value v qs r.stock
     (subst (λ (words : List ℕ). MayClose z r.row.key.items r.row.value v qs (links_of words) r.stock) (sym c.gone_by.ensures.words) may) in
     record {
@@ -21,8 +21,6 @@ returns-clause-fits c z u opened began v ps qs p k room frame begun outcome coun
           ended = v;
           stock = r.stock;
           waiting = qs;
-          position = p;
-          case = k;
           frame = frame;
           begun = begun;
           outcome = outcome;

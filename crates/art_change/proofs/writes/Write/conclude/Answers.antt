@@ -7,16 +7,16 @@ use Rattle.art_change.specs.declared.writes.Outcome.TheVariants.{Overlaps}
 use Rattle.art_change.proofs.writes.Write.conclude.Goals as goal
 
 pub returns-in-Some-clause-fits : goal.returns-in-Some-clause-fits
-returns-in-Some-clause-fits c z u opened began v ps qs p k room frame begun ends counted =
+returns-in-Some-clause-fits c z u opened began v ps qs room frame begun ends counted =
     let m = c.args.self.now in
-    c.begin_exit.ensures.fits z u opened began v ps qs p k room frame begun
-    (outcome_ends z began m.job p k c.args.room.now m.left v c.args.ending c.in-Some.outcome ends (sym c.outcome_of.ensures ∙ c.in-Some.is)) counted
+    c.begin_exit.ensures.fits z u opened began v ps qs room frame begun
+    (outcome_ends z began m.job c.args.room.now m.left v c.args.ending c.in-Some.outcome ends (sym c.outcome_of.ensures ∙ c.in-Some.is)) counted
 
 pub returns-in-None-clause-fits : goal.returns-in-None-clause-fits
-returns-in-None-clause-fits c z u opened began v ps qs p k room frame begun ends counted =
+returns-in-None-clause-fits c z u opened began v ps qs room frame begun ends counted =
     let m = c.args.self.now in
     let r = c.args.room.now in
-    let anew = anew_ends z began m.job p k r m.left v c.args.ending ends (sym c.outcome_of.ensures ∙ c.in-None.is) in
+    let anew = anew_ends z began m.job r m.left v c.args.ending ends (sym c.outcome_of.ensures ∙ c.in-None.is) in
     let more = c.saturating_add-self.ensures in
     c.go_on.ensures.fits z u opened v ps qs room frame
     (begun_again z opened began v m.restarts c.saturating_add-self.result r begun anew.0 anew.1 (omega (arith, more))) anew.0.has counted

@@ -63,8 +63,6 @@ returns-then-ended-clause-fits c z u v w ps asked fits is row =
       ended = k.ended;
       stock = k.stock;
       waiting = k.waiting;
-      position = k.position;
-      case = k.case;
       frame = k.frame;
       begun = k.begun;
       outcome = k.outcome;
@@ -74,7 +72,7 @@ returns-then-ended-clause-fits c z u v w ps asked fits is row =
     } in
     record {
       room = record { sizes = fits.room.sizes; key = fits.room.key };
-      stage = done_by z u k.began k.ended ps m.job k.position k.case (record r { stock = k.stock }) a m.left next then rs w k.outcome exit;
+      stage = done_by z u k.began k.ended ps m.job (record r { stock = k.stock }) a m.left next then rs w k.outcome exit;
     }
 
 pub returns-else-ended-clause-fits : goal.returns-else-ended-clause-fits
@@ -103,8 +101,6 @@ returns-else-ended-clause-fits c z u v w ps asked fits is row =
           ended = k.ended;
           stock = k.stock;
           waiting = k.waiting;
-          position = k.position;
-          case = k.case;
           frame = k.frame;
           begun = k.begun;
           outcome = k.outcome;

@@ -1,17 +1,15 @@
 use Rattle.std.proofs.Common.{◌∙◌, sym, arith}
 use Rattle.art_attempt.proofs.Left.{free_few}
-use Rattle.art_change.proofs.AnyPlaces.{any_case, any_place}
 use Rattle.art_change.proofs.Frames.{begun_so, begun_tries}
 use Rattle.art_change.proofs.writes.Write.go_on.Goals as goal
 
 pub returns-then-self-eq0-clause-left : goal.returns-then-self-eq0-clause-left
 returns-then-self-eq0-clause-left c qs = let few = c.begin_exit.ensures.left qs in omega (arith, few)
 
--- no attempt is made any more, so none has a place or a case
 pub returns-then-self-eq0-clause-fits : goal.returns-then-self-eq0-clause-fits
 returns-then-self-eq0-clause-fits c z u opened v ps qs room frame begun has counted =
     let m = c.args.self.now in
-    c.begin_exit.ensures.fits z u opened v v ps qs any_place any_case room frame begun (begun_so z opened m.restarts v begun c.args.room.now has, c.if-self-eq0.true) counted
+    c.begin_exit.ensures.fits z u opened v v ps qs room frame begun (begun_so z opened m.restarts v begun c.args.room.now has, c.if-self-eq0.true) counted
 
 pub returns-then-self-eq0-clause-apart : goal.returns-then-self-eq0-clause-apart
 returns-then-self-eq0-clause-apart c is = let no = sym c.begin_exit.ensures.outcome ∙ is in cc

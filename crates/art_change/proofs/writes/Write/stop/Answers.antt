@@ -1,5 +1,4 @@
 use Rattle.std.proofs.Common.{◌∙◌, refl, sym, arith}
-use Rattle.art_change.proofs.AnyPlaces.{any_case, any_place}
 use Rattle.art_change.proofs.GivenUp.{held_in_try}
 use Rattle.art_change.proofs.Staged.{fits_at}
 use Rattle.art_change.proofs.writes.Write.stop.Goals as goal
@@ -16,7 +15,7 @@ returns-clause-fits c z u v ps qs fits =
     let first = t.begun.base.later.steps in
     let last = so.still.later.steps in
     let used = c.saturating_sub-self.ensures in
-    c.begin_exit.ensures.fits z u t.opened t.began v ps qs any_place any_case fits.room t.frame t.begun (so, refl) (omega (arith, counted, first, last, used))
+    c.begin_exit.ensures.fits z u t.opened t.began v ps qs fits.room t.frame t.begun (so, refl) (omega (arith, counted, first, last, used))
 
 pub returns-clause-apart : goal.returns-clause-apart
 returns-clause-apart c is = let no = sym c.begin_exit.ensures.outcome ∙ is in cc

@@ -1,5 +1,5 @@
 use Rattle.std.proofs.Common.{◌∙◌, Some, ap, sym, subst, arith}
-use Rattle.art_attempt.specs.Attempts.{EndsBy}
+use Rattle.art_attempt.specs.Attempts.{EndFits}
 use Rattle.art_attempt.specs.declared.attempts.Ending.{Ending}
 use Rattle.art_attempt.specs.declared.attempts.Job.{Job}
 use Rattle.art_change.proofs.Endings.{ended_steps, ends_as}
@@ -47,8 +47,8 @@ returns-in-Some-clause-fits g c u ps qs before_it =
     let before = k.counted in
     let more = c.hurry.ensures.counted in
     let ends = ends_as z k.began c.hurry.new.room w t c.in-Some.ending fits (sym c.ended.ensures.at ∙ c.in-Some.is) in
-    c.conclude.ensures.fits z u k.opened k.began w ps qs ends.position ends.case fits.room k.frame k.begun
-    (subst (λ (j : Job). EndsBy z k.began j ends.position ends.case c.hurry.new.room c.in-Some.ending w) (c.hurry.ensures.kept.job ∙ k.job) ends.ends)
+    c.conclude.ensures.fits z u k.opened k.began w ps qs fits.room k.frame k.begun
+    (subst (λ (j : Job). EndFits z k.began j c.hurry.new.room c.in-Some.ending w) (c.hurry.ensures.kept.job ∙ k.job) ends)
     (omega (arith, before, more))
 
 pub hurry-requires-clause-fits : goal.hurry-requires-clause-fits

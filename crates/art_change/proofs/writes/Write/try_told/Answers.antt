@@ -3,7 +3,7 @@ use Rattle.art_change.proofs.Frames.{still_counted}
 use Rattle.art_change.proofs.Endings.{ended_steps, ends_as}
 use Rattle.art_change.proofs.Staged.{asked_at, fits_at, made_at, steps_at}
 use Rattle.art_attempt.proofs.Counts.{attempt_steps}
-use Rattle.art_attempt.specs.Attempts.{EndsBy, steps_left}
+use Rattle.art_attempt.specs.Attempts.{EndFits, steps_left}
 use Rattle.art_attempt.specs.declared.attempts.Ending.{Ending}
 use Rattle.art_attempt.specs.declared.attempts.Job.{Job}
 use Rattle.art_attempt.specs.declared.attempts.Ending.TheVariants.{Restart}
@@ -61,8 +61,8 @@ returns-in-Some-clause-fits c z u v w ps qs asked fits is row =
     let left = c.saturating_sub-self.ensures ∙ ap (λ (n : ℕ). m.left - n) c.steps.ensures in
     let counted = still_counted (k.opened.steps + m.turns) v.steps w.steps m.left _ k.counted (omega (arith, steps)) in
     let ends = ends_as z k.began c.told.new.room w t c.in-Some.ending next (sym c.ended.ensures.at ∙ c.in-Some.is) in
-    c.conclude.ensures.fits z u k.opened k.began w ps qs ends.position ends.case next.room k.frame k.begun
-    (subst (λ (j : Job). EndsBy z k.began j ends.position ends.case c.told.new.room c.in-Some.ending w) (c.told.ensures.kept.job ∙ k.job) ends.ends)
+    c.conclude.ensures.fits z u k.opened k.began w ps qs next.room k.frame k.begun
+    (subst (λ (j : Job). EndFits z k.began j c.told.new.room c.in-Some.ending w) (c.told.ensures.kept.job ∙ k.job) ends)
     (subst (λ (n : ℕ). k.opened.steps + m.turns ≤ w.steps + n) (sym left) counted)
 
 pub returns-in-None-clause-left : goal.returns-in-None-clause-left

@@ -1,6 +1,5 @@
 use Rattle.std.proofs.Common.{◌≡◌, ◌∙◌, true, false, sym, subst, arith}
 use Rattle.art_attempt.specs.declared.attempts.Attempt.{Attempt}
-use Rattle.art_change.proofs.AnyPlaces.{any_case, any_place}
 use Rattle.art_change.proofs.Staged.{same_attempt, steps_at}
 use Rattle.art_change.proofs.writes.Write.turn.Goals as goal
 use Rattle.art_change.specs.Writes.{IsTrying, StageFits}
@@ -20,7 +19,7 @@ returns-then-is_free-clause-fits c z u v ps qs t at room is =
     let i = c.in-Trying.attempt in
     let k = subst (λ (a : Attempt). IsTrying z u ps m a r qs v) (same_attempt m.stage t i at c.in-Trying.is) is in
     let so = c.is_free.ensures.free c.if-is_free.true k.going z k.began v r k.fits in
-    c.begin_exit.ensures.fits z u k.opened k.began v ps qs any_place any_case room k.frame k.begun (so, c.if-self-eq0.true) k.counted
+    c.begin_exit.ensures.fits z u k.opened k.began v ps qs room k.frame k.begun (so, c.if-self-eq0.true) k.counted
 
 pub returns-then-is_free-clause-apart : goal.returns-then-is_free-clause-apart
 returns-then-is_free-clause-apart c is = let no = sym c.begin_exit.ensures.outcome ∙ is in cc
