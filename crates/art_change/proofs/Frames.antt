@@ -8,7 +8,7 @@ use Rattle.art_attempt.specs.Trying.{StillTries}
 use Rattle.art_attempt.specs.declared.rooms.Room.{Room}
 use Rattle.art_change.proofs.Endings.{left_by, left_since}
 use Rattle.art_change.proofs.Staged.{asked_at, fits_at, made_at, steps_at}
-use Rattle.art_change.specs.Writes.{Answers, Fits, HasBegun, StageFits, asks, asks_at, brings_at, left_at, steps_left as write_left, IsExiting, IsDone, IsEntering, OutcomeBy, SameRow, given, gone_by, or_busy, outcome_of}
+use Rattle.art_change.specs.Writes.{Answers, Fits, HasBegun, StageFits, asks, asks_at, brings_at, left_at, steps_left as write_left, IsExiting, IsDone, IsEntering, OutcomeBy, given, gone_by, or_busy, outcome_of}
 use Rattle.art_attempt.specs.declared.attempts.Job.{Job}
 use Rattle.art_attempt.specs.declared.attempts.Ending.{Ending}
 use Rattle.art_attempt.specs.declared.attempts.Ending.TheVariants as ending
@@ -38,10 +38,6 @@ use Rattle.art_step.specs.declared.views.View.{View}
 -- ---- a number goes back
 
 -- what is known of the opening and of the room does not hang on where searches begin
-pub given_key : (o : Option Link) (r : Room) → SameRow r (given o r)
-given_key (Some d) r = record { key = refl; value = refl }
-given_key None r = record { key = refl; value = refl }
-
 pub given_room : (z : Sizes) (o : Option Link) (r : Room) → IsRoom z r → IsRoom z (given o r)
 given_room z (Some d) r i = record { sizes = i.sizes; key = i.key }
 given_room z None r i = i

@@ -4,7 +4,7 @@ use Rattle.art_attempt.proofs.Counts.{attempt_steps}
 use Rattle.art_attempt.specs.declared.attempts.Attempt.{Attempt}
 use Rattle.art_attempt.specs.declared.rooms.Room.{Room}
 use Rattle.art_change.proofs.FrameSteps.{IsFrame, exit_frame, frame_one, enter_frame}
-use Rattle.art_change.specs.Writes.{Answers, Fits, StageFits, asks, asks_at, brings_at, overlaps_by}
+use Rattle.art_change.specs.Writes.{Answers, Fits, StageFits, asks, asks_at, brings_at}
 use Rattle.art_change.specs.declared.writes.Stage.{Stage}
 use Rattle.art_change.specs.declared.writes.Stage.TheVariants as stage
 use Rattle.art_change.specs.declared.writes.Write.{Write}
@@ -29,12 +29,6 @@ module _ (r : Room) (a : Action) where
   frame_brings (stage.Trying t) not = absurd (not t refl)
   frame_brings (stage.Exit x o) not = refl
   frame_brings (stage.Ended o) not = refl
-
-pub frame_apart : (s : Stage) (answer : Answer) → ((t : Attempt) → s ≢ stage.Trying t) → overlaps_by s answer → ⊥
-frame_apart (stage.Enter e) answer not is = absurd is
-frame_apart (stage.Trying t) answer not is = not t refl
-frame_apart (stage.Exit x o) answer not is = absurd is
-frame_apart (stage.Ended o) answer not is = absurd is
 
 module _ (z : Sizes) (u : View) (ps : List Place) (m : Write) (r : Room) (qs : List Place) (v w : View) (a : Action) (answer : Answer) where
   frame_few : IsFrame a → acting.Answers z None a answer v w → w.steps ≤ v.steps + 1

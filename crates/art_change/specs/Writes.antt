@@ -96,8 +96,8 @@ Answers z m r a answer v w = acting.Answers z (brings_at m.stage r a) a answer v
 -- ---- where searches begin
 
 -- the number that goes back to its pool by a step of the opening
-abbrev pub freed_by : Option Action → Option Link
-freed_by (Some (Free d)) = Some d
+abbrev pub freed_by : Action → Option Link
+freed_by (Free d) = Some d
 freed_by a = None
 
 -- it went back: the next search of its pool begins at its word

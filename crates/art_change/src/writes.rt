@@ -12,7 +12,6 @@ ghost use Rattle.art_change.specs.declared.writes.Outcome.TheVariants.{Overlaps 
 ghost use Rattle.art_change.specs.declared.writes.Stage.TheVariants as stages;
 ghost use Rattle.art_epoch.specs.Limbo.{places_of};
 ghost use Rattle.art_epoch.specs.declared.limbo.Place.{Place};
-ghost use Rattle.art_epoch.specs.Enter.{asks as enter_asks};
 ghost use Rattle.art_epoch.specs.declared.enter.Enter.{Enter as EnterOf};
 ghost use Rattle.art_epoch.specs.declared.exit.Exit.{Exit as ExitOf};
 ghost use Rattle.art_epoch.specs.declared.stocks.Stock.{Stock as StockOf};
@@ -133,8 +132,11 @@ impl Write {
             Answers z self.old room.old asked answer v w → Fits z u ps self.new room.new (places_of limbo.new) w }
         ensures left { steps_left self.new room.new (places_of limbo.new) < steps_left self.old room.old (places_of limbo.old) }
     {
-        match self.stage {
-            Stage::Enter(_) => self.enter_on(room, limbo, answer),
+        match &self.stage {
+            Stage::Enter(enter) => match enter.next(limbo) {
+                Some(asked) => self.enter_on(room, limbo, asked, answer),
+                None => unreachable!(),
+            },
             Stage::Trying(_) => self.try_told(room, answer),
             Stage::Exit { .. } => self.exit_told(room, limbo, answer),
             Stage::Ended(_) => {}
@@ -241,27 +243,23 @@ impl Write {
         }
     }
 
-    /// A step of the opening was made. Where a number went back by it, the next search of its pool begins there.
-    fn enter_on(&mut self, room: &mut Room, limbo: &mut Limbo, answer: Answer)
+    /// The step that the opening asked for was made. Where a number went back by it, the next search of its pool begins there.
+    fn enter_on(&mut self, room: &mut Room, limbo: &mut Limbo, asked: Action, answer: Answer)
         requires stage { (e : EnterOf) × (self.old.stage ≡ stages.Enter e) }
-        requires told { (z : Sizes) × (u : View) × (v : View) × (w : View) × (ps : List Place) × (asked : ActionOf) ×
-            Fits z u ps self.old room.old (places_of limbo.old) v × (asks self.old room.old (places_of limbo.old) ≡ Some asked) ×
-            Answers z self.old room.old asked answer v w }
+        requires asks { asks self.old room.old (places_of limbo.old) ≡ Some asked }
+        requires told { (z : Sizes) × (u : View) × (v : View) × (w : View) × (ps : List Place) ×
+            Fits z u ps self.old room.old (places_of limbo.old) v × Answers z self.old room.old asked answer v w }
         ensures job { self.new.job ≡ self.old.job }
         ensures turns { self.new.turns ≡ self.old.turns }
         ensures restarts { self.new.restarts ≡ self.old.restarts }
         ensures refuses { self.old.left ≡ 0 → WillRefuse self.new }
         ensures apart { IsApart self.new }
-        ensures hints { room.new ≡ given (freed_by (asks self.old room.old (places_of limbo.old))) room.old }
+        ensures hints { room.new ≡ given (freed_by asked) room.old }
         ensures left { steps_left self.new room.new (places_of limbo.new) < steps_left self.old room.old (places_of limbo.old) }
-        ensures fits { (z : Sizes) (u v w : View) (ps : List Place) (asked : ActionOf) →
-            Fits z u ps self.old room.old (places_of limbo.old) v → asks self.old room.old (places_of limbo.old) ≡ Some asked →
+        ensures fits { (z : Sizes) (u v w : View) (ps : List Place) → Fits z u ps self.old room.old (places_of limbo.old) v →
             Answers z self.old room.old asked answer v w → Fits z u ps self.new room.new (places_of limbo.new) w }
     {
-        let Stage::Enter(enter) = &self.stage else {
-            unreachable!()
-        };
-        note_given(enter, room, limbo);
+        note_given(room, asked);
         self.enter_told(room, limbo, answer);
     }
 
@@ -386,7 +384,7 @@ impl Write {
     {
         while let Some(asked) = self.frame_asked(room, limbo) {
             let answer = perform(steps, asked, None);
-            self.told(room, limbo, answer);
+            self.frame_told(room, limbo, asked, answer);
         }
     }
 
@@ -402,6 +400,24 @@ impl Write {
             Stage::Enter(enter) => enter.next(limbo),
             Stage::Exit { exit, .. } => exit.next(&room.stock),
             Stage::Trying(_) | Stage::Ended(_) => None,
+        }
+    }
+
+    /// The step of its opening, or of its close, that it asked for was made, with this answer.
+    fn frame_told(&mut self, room: &mut Room, limbo: &mut Limbo, asked: Action, answer: Answer)
+        requires framed { (t : AttemptOf) → self.old.stage ≢ stages.Trying t }
+        requires asks { asks self.old room.old (places_of limbo.old) ≡ Some asked }
+        requires told { (z : Sizes) × (u : View) × (v : View) × (w : View) × (ps : List Place) ×
+            Fits z u ps self.old room.old (places_of limbo.old) v × Answers z self.old room.old asked answer v w }
+        ensures same { IsSameWrite self.old room.old self.new room.new }
+        ensures left { steps_left self.new room.new (places_of limbo.new) < steps_left self.old room.old (places_of limbo.old) }
+        ensures fits { (z : Sizes) (u v w : View) (ps : List Place) → Fits z u ps self.old room.old (places_of limbo.old) v →
+            Answers z self.old room.old asked answer v w → Fits z u ps self.new room.new (places_of limbo.new) w }
+    {
+        match self.stage {
+            Stage::Enter(_) => self.enter_on(room, limbo, asked, answer),
+            Stage::Exit { .. } => self.exit_told(room, limbo, answer),
+            Stage::Trying(_) | Stage::Ended(_) => unreachable!(),
         }
     }
 
@@ -535,11 +551,11 @@ impl Write {
     }
 }
 
-/// Where a number goes back by the next step of the opening, a search of its pool begins at its word.
-fn note_given(enter: &Enter, room: &mut Room, limbo: &Limbo)
-    ensures { room.new ≡ given (freed_by (enter_asks enter.now (places_of limbo.now))) room.old }
+/// Where a number went back by this step of the opening, the next search of its pool begins at its word.
+fn note_given(room: &mut Room, asked: Action)
+    ensures { room.new ≡ given (freed_by asked) room.old }
 {
-    if let Some(Action::Free { link }) = enter.next(limbo) {
+    if let Action::Free { link } = asked {
         room.stock.start_at(link);
     }
 }

@@ -1,10 +1,8 @@
 -- The steps are those of the opening, or of the close.
-use Rattle.std.proofs.Common.{◌≡◌, ◌∙◌, Option, None, Some, ⊎_elim, refl, sym, subst, arith}
-use Rattle.art_change.proofs.Steps.{frame_apart, frame_brings, framed}
+use Rattle.std.proofs.Common.{◌∙◌, Option, None, refl, sym, subst, arith}
+use Rattle.art_change.proofs.Steps.{frame_brings, framed}
 use Rattle.art_change.proofs.SameWrite.{same_still, same_then}
 use Rattle.art_change.proofs.FrameSteps.{frame_one}
-use Rattle.art_change.specs.Writes.{IsSameWrite, outcome_in, overlaps_by}
-use Rattle.art_change.specs.declared.writes.Outcome.TheVariants.{Overlaps}
 use Rattle.art_machine.specs.Acting.{Answers, IsAllowed}
 use Rattle.art_machine.specs.declared.actions.Effects.{Effects}
 use Rattle.art_epoch.specs.Limbo.{places_of}
@@ -29,8 +27,8 @@ perform-answer-requires-clause-allowed g c =
     subst (λ (z : Sizes). IsAllowed z None v c.in-Some.asked) (sym l.invariant.sizes)
     (c.in-Some.ensures.allowed (g.S.Steps.sizes c.args.steps.now) q.0 v q.1 (l.invariant.fits q.0 q.1 q.2))
 
-pub told-requires : goal.told-requires
-told-requires g c =
+pub frame_told-requires-clause-told : goal.frame_told-requires-clause-told
+frame_told-requires-clause-told g c =
     let l = c.loop-asked in
     let z = g.S.Steps.sizes c.args.steps.now in
     let q = c.requires.fits in (
@@ -39,16 +37,14 @@ told-requires g c =
       g.S.Steps.view l.steps,
       g.S.Steps.view c.perform-answer.new.steps,
       q.1,
-      c.in-Some.asked,
       l.invariant.fits q.0 q.1 q.2,
-      c.in-Some.ensures.asks,
       subst (λ (o : Option Effects). Answers z o c.in-Some.asked c.perform-answer.result (g.S.Steps.view l.steps) (g.S.Steps.view c.perform-answer.new.steps))
           (sym (frame_brings l.room c.in-Some.asked l.self.stage c.in-Some.ensures.framed))
           (subst (λ (y : Sizes). Answers y None c.in-Some.asked c.perform-answer.result (g.S.Steps.view l.steps) (g.S.Steps.view c.perform-answer.new.steps)) l.invariant.sizes c.perform-answer.ensures.row),
     )
 
 pub loop-asked-smaller : goal.loop-asked-smaller
-loop-asked-smaller g c = c.told.ensures.left
+loop-asked-smaller g c = c.frame_told.ensures.left
 
 pub loop-asked-preserved : goal.loop-asked-preserved
 loop-asked-preserved g c =
@@ -58,30 +54,20 @@ loop-asked-preserved g c =
     let z = g.S.Steps.sizes s in
     let v = g.S.Steps.view l.steps in
     let w = g.S.Steps.view c.perform-answer.new.steps in
-    let n = c.told.new in
+    let n = c.frame_told.new in
     let m = l.self in
-    let e = c.told.ensures in
+    let e = c.frame_told.ensures in
     let row = subst (λ (y : Sizes). Answers y None c.in-Some.asked c.perform-answer.result v w) i.sizes c.perform-answer.ensures.row in
     let one = frame_one z c.in-Some.asked c.perform-answer.result v w (framed l.room c.in-Some.asked m.stage (places_of l.limbo) c.in-Some.ensures.framed c.in-Some.ensures.asks) row in
     let told = subst (λ (o : Option Effects). Answers z o c.in-Some.asked c.perform-answer.result v w) (sym (frame_brings l.room c.in-Some.asked m.stage c.in-Some.ensures.framed)) row in
-    let here : IsSameWrite m l.room n.self n.room = record {
-      job = e.job;
-      turns = e.turns;
-      key = e.key;
-      refuses = e.refuses;
-      apart = λ is over. ⊎_elim
-          (λ (had : outcome_in m.stage ≡ Some Overlaps). is had)
-          (λ (was : overlaps_by m.stage c.perform-answer.result). frame_apart m.stage c.perform-answer.result c.in-Some.ensures.framed was)
-          (e.overlaps over);
-    } in
     let later = i.later in
     let left = i.left in
     let fewer = e.left in
     record {
       only = g.met.S.Steps.only_then s l.steps c.perform-answer.new.steps i.only c.perform-answer.ensures.only;
       sizes = g.met.S.Steps.only_sizes l.steps c.perform-answer.new.steps c.perform-answer.ensures.only ∙ i.sizes;
-      same = same_then c.args.self.now c.args.room.now m l.room n.self n.room i.same here;
+      same = same_then c.args.self.now c.args.room.now m l.room n.self n.room i.same e.same;
       later = omega (arith, one, later);
       left = omega (arith, one, left, fewer);
-      fits = λ u ps fits. e.fits z u v w ps c.in-Some.asked (i.fits u ps fits) c.in-Some.ensures.asks told;
+      fits = λ u ps fits. e.fits z u v w ps (i.fits u ps fits) told;
     }
