@@ -67,8 +67,8 @@ module _ (z : Sizes) (u : View) (ps : List Place) (m : Write) (r : Room) (qs : L
   insert_may k value Overlaps is done = refl
   insert_may k value Busy is done = refl
   insert_may k value (Crowded b) is done = refl
-  insert_may k value (Gone had) is done = let no : job.Insert ≡ job.Remove = sym is ∙ done.outcome.0 in cc
-  insert_may k value Absent is done = let no : job.Insert ≡ job.Remove = sym is ∙ done.outcome.0 in cc
+  insert_may k value (Gone had) is done = let no : job.Insert ≡ job.Remove = sym is ∙ done.outcome.ends.0 in cc
+  insert_may k value Absent is done = let no : job.Insert ≡ job.Remove = sym is ∙ done.outcome.ends.0 in cc
 
   remove_may : (k : ArrayVec ℕ) (o : Outcome) → m.job ≡ job.Remove → IsDone z u ps o m r qs v → may_end (Remove k) (of_write o) ≡ true
   remove_may k (Gone had) is done = refl
@@ -76,10 +76,10 @@ module _ (z : Sizes) (u : View) (ps : List Place) (m : Write) (r : Room) (qs : L
   remove_may k (Exhausted c) is done = refl
   remove_may k Busy is done = refl
   remove_may k (Crowded b) is done = refl
-  remove_may k New is done = let no : job.Remove ≡ job.Insert = sym is ∙ done.outcome.0 in cc
-  remove_may k (Present stands) is done = let no : job.Remove ≡ job.Insert = sym is ∙ done.outcome.0 in cc
-  remove_may k (Full pool) is done = let no : job.Remove ≡ job.Insert = sym is ∙ done.outcome.0 in cc
-  remove_may k Overlaps is done = let no : job.Remove ≡ job.Insert = sym is ∙ done.outcome.0 in cc
+  remove_may k New is done = let no : job.Remove ≡ job.Insert = sym is ∙ done.outcome.ends.0 in cc
+  remove_may k (Present stands) is done = let no : job.Remove ≡ job.Insert = sym is ∙ done.outcome.ends.0 in cc
+  remove_may k (Full pool) is done = let no : job.Remove ≡ job.Insert = sym is ∙ done.outcome.ends.0 in cc
+  remove_may k Overlaps is done = let no : job.Remove ≡ job.Insert = sym is ∙ done.outcome.ends.0 in cc
 
 -- ---- what a client sees
 
