@@ -349,6 +349,7 @@ impl Write {
     }
 
     /// Makes the steps of the stage where it stands, one after another.
+    #[inline(always)]
     fn hurry_stage<S: EpochSteps>(&mut self, steps: &mut S, room: &mut Room, limbo: &mut Limbo)
         requires admitted { S.admits steps.old room.old.row.key.items }
         requires fits { (u : View) × (ps : List Place) ×
