@@ -122,7 +122,10 @@ impl Attempt {
         };
         let demand = case.demand(room.sizes, &position.verdict);
         let key = room.row.key.as_slice();
-        reserve.run(steps, &demand, key, room.row.value, &mut room.stock, left);
+        // a copy of its own stays in registers while it runs
+        let mut running = *reserve;
+        running.run(steps, &demand, key, room.row.value, &mut room.stock, left);
+        *reserve = running;
         self.supply_on(room);
     }
 
@@ -276,7 +279,10 @@ impl Attempt {
             lower,
             ..
         } = room;
-        validate.run(steps, position, &cells, read_set, lower, left);
+        // a copy of its own stays in registers while it runs
+        let mut running = *validate;
+        running.run(steps, position, &cells, read_set, lower, left);
+        *validate = running;
         self.validate_on(room);
     }
 

@@ -244,6 +244,7 @@ impl Write {
     }
 
     /// The step that the opening asked for was made. Where a number went back by it, the next search of its pool begins there.
+    #[inline(always)]
     fn enter_on(&mut self, room: &mut Room, limbo: &mut Limbo, asked: Action, answer: Answer)
         requires stage { (e : EnterOf) × (self.old.stage ≡ stages.Enter e) }
         requires asks { asks self.old room.old (places_of limbo.old) ≡ Some asked }
@@ -405,6 +406,7 @@ impl Write {
     }
 
     /// The step of its opening, or of its close, that it asked for was made, with this answer.
+    #[inline(always)]
     fn frame_told(&mut self, room: &mut Room, limbo: &mut Limbo, asked: Action, answer: Answer)
         requires framed { (t : AttemptOf) → self.old.stage ≢ stages.Trying t }
         requires asks { asks self.old room.old (places_of limbo.old) ≡ Some asked }
@@ -553,6 +555,7 @@ impl Write {
 }
 
 /// Where a number went back by this step of the opening, the next search of its pool begins at its word.
+#[inline(always)]
 fn note_given(room: &mut Room, asked: Action)
     ensures { room.new ≡ given (freed_by asked) room.old }
 {
