@@ -65,7 +65,7 @@ supply_plain (ReadPin q) is = absurd is
 pub look_may : (z : Sizes) (d : Deed) (c : ChangeOf) (v : View) (a : Action) → MayAsk z d v a → IsAllowed z d c v a
 look_may z d c v (Begin x) may = may
 look_may z d c v (Read x i) may = may
-look_may z d c v (ReadLeaf x l i) may = (may.0, may.1)
+look_may z d c v (ReadLeaf x l i) may = may
 look_may z d c v (Check x) may = may
 look_may z d c v (Settle x) may = may
 look_may z d c v (Upgrade x) may = absurd may

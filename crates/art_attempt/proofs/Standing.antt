@@ -20,6 +20,7 @@ use Rattle.art_find.specs.declared.read_sets.ReadSet.{ReadSet}
 use Rattle.art_attempt.specs.Naming.{IsBelow, IsLed, IsLower, IsParent, StillNames, StillStands, WouldLead}
 use Rattle.art_attempt.specs.Reserve.{StayFound}
 use Rattle.art_attempt.specs.Validate.{FoundAt, HasJustChecked}
+use Rattle.art_machine.specs.Acting.{HasPath}
 use Rattle.art_plan.specs.ChooseInsert.Bodies.{HasWords}
 use Rattle.art_step.specs.Shows.{HasStamp, OnlyReads}
 use Rattle.art_step.specs.Steps.Check as check
@@ -31,9 +32,10 @@ use Rattle.art_step.specs.declared.views.View.{View}
 
 -- ---- the cell above
 
--- it is stamped, and what is kept of it was read; the cell below it is a node
+-- it is stamped, with its path, and what is kept of it was read; the cell below it is a node
 pub record IsOver (z : Sizes) (v : View) (a : CellAbove) (reads : List (Option ℕ)) (c : Cell) : Type 0 where
   pub stamp : HasStamp z v a.stamp
+  pub path : HasPath v a.stamp
   pub kept : IsKept z v a.stamp reads
   pub node : Node
   pub is : c ≡ cell.Node node
@@ -45,6 +47,7 @@ under_over z k o reads v (cell.Node n) a under is =
     let one : under.0 ≡ a = same_Some {A = CellAbove} under.0 a (sym under.1 ∙ is) in
     record {
       stamp = subst (λ (y : CellAbove). HasStamp z v y.stamp) one under.2.on;
+      path = subst (λ (y : CellAbove). HasPath v y.stamp) one under.2.path;
       kept = subst (λ (y : CellAbove). IsKept z v y.stamp reads) one under.3;
       node = n;
       is = refl;

@@ -33,7 +33,7 @@ use Rattle.art_attempt.specs.declared.validate.Validate.{Validate}
 use Rattle.art_attempt.specs.declared.validate.Validate.TheVariants.{Read, Check, Ended}
 use Rattle.art_attempt.specs.declared.validate.Validated.TheVariants.{Unchanged}
 use Rattle.art_machine.proofs.Words.{word_row}
-use Rattle.art_machine.specs.Acting.{Answers, telling, word_in}
+use Rattle.art_machine.specs.Acting.{Answers, HasPath, telling, word_in}
 use Rattle.art_machine.specs.declared.actions.Action.{Action}
 use Rattle.art_machine.specs.declared.actions.Action.TheVariants as action
 use Rattle.art_machine.specs.declared.actions.Answer.{Answer}
@@ -77,26 +77,27 @@ module _ (z : Sizes) (k : List ℕ) (t : Position) (o : Cells) (read_set : ReadS
   below_known (Some m) below l is = subst (λ (a : LowerNode). IsBelow z k t read_set a.node a.stamp lower v) (same_Some {A = LowerNode} m l is) below.1
   below_known None below l is = cc
 
-  -- each is stamped, and what is kept of it was read
-  pub cell_known : (role : Role) (x : Stamp) → stamp_of t o role ≡ Some x → HasStamp z v x × IsKept z v x (reads_of read_set lower role)
+  -- each is stamped, a path to it was noted, and what is kept of it was read
+  pub cell_known : (role : Role) (x : Stamp) → stamp_of t o role ≡ Some x → HasStamp z v x × HasPath v x × IsKept z v x (reads_of read_set lower role)
   cell_known Above x is =
       let a = is_above t o x is in
       let over = under_over z k t.above (above_of read_set) v t.stamp.cell a.0 knows.stands.standing.place.under a.1 in
-      (subst (HasStamp z v) a.2 over.stamp, subst (λ (y : Stamp). IsKept z v y (above_of read_set)) a.2 over.kept)
+      (subst (HasStamp z v) a.2 over.stamp, subst (HasPath v) a.2 over.path, subst (λ (y : Stamp). IsKept z v y (above_of read_set)) a.2 over.kept)
   cell_known Here x is =
       let one : t.stamp ≡ x = same_Some {A = Stamp} t.stamp x is in
-      (subst (HasStamp z v) one knows.stands.standing.stamp, subst (λ (y : Stamp). IsKept z v y (node_of read_set)) one knows.stands.standing.place.kept)
+      let at = knows.stands.standing in
+      (subst (HasStamp z v) one at.stamp, subst (HasPath v) one at.place.path, subst (λ (y : Stamp). IsKept z v y (node_of read_set)) one at.place.kept)
   cell_known Lower x is =
       let l = lower_by o.lower x is in
       let below = below_known o.lower knows.below l.0 l.1 in
-      (subst (HasStamp z v) l.2 below.on.stamp, subst (λ (y : Stamp). IsKept z v y lower) l.2 below.on.kept)
+      (subst (HasStamp z v) l.2 below.on.stamp, subst (HasPath v) l.2 below.path, subst (λ (y : Stamp). IsKept z v y lower) l.2 below.on.kept)
 
   -- so it may be read
   pub begins : (role : Role) (x : Stamp) (r : Rereading) (reads : List (Option ℕ)) → stamp_of t o role ≡ Some x → reads ≡ reads_of read_set lower role
-      → (IsNotHeld v.held x.cell → HasStamp z v x → IsKept z v x reads → RereadingFits z v x r reads) → RereadingFits z v x r (reads_of read_set lower role)
+      → (IsNotHeld v.held x.cell → HasStamp z v x → HasPath v x → IsKept z v x reads → RereadingFits z v x r reads) → RereadingFits z v x r (reads_of read_set lower role)
   begins role x r reads is same fits =
       let known = cell_known role x is in
-      subst (RereadingFits z v x r) same (fits (none_held v x.cell knows.stands.reads.free) known.0 (subst (IsKept z v x) (sym same) known.1))
+      subst (RereadingFits z v x r) same (fits (none_held v x.cell knows.stands.reads.free) known.0 known.1 (subst (IsKept z v x) (sym same) known.2))
 
 -- ---- what is known stays so
 
@@ -347,9 +348,9 @@ was_vouched z k t o read_set lower u x v checked =
 
 -- what is kept of a stamped cell may be read on, where the key stands
 pub here_begins : (z : Sizes) (k : List ℕ) (t : Position) (read_set : ReadSet) (u v : View) (r : Rereading) (reads : List (Option ℕ)) → StillStands z k t read_set u v → reads ≡ node_of read_set
-    → (IsNotHeld v.held t.stamp.cell → HasStamp z v t.stamp → IsKept z v t.stamp reads → RereadingFits z v t.stamp r reads) → RereadingFits z v t.stamp r (node_of read_set)
+    → (IsNotHeld v.held t.stamp.cell → HasStamp z v t.stamp → HasPath v t.stamp → IsKept z v t.stamp reads → RereadingFits z v t.stamp r reads) → RereadingFits z v t.stamp r (node_of read_set)
 here_begins z k t read_set u v r reads stands is begins = subst (RereadingFits z v t.stamp r) is
-    (begins (none_held v t.stamp.cell stands.reads.free) stands.standing.stamp (subst (IsKept z v t.stamp) (sym is) stands.standing.place.kept))
+    (begins (none_held v t.stamp.cell stands.reads.free) stands.standing.stamp stands.standing.place.path (subst (IsKept z v t.stamp) (sym is) stands.standing.place.kept))
 
 -- ---- what it asks for may be done
 
@@ -362,7 +363,7 @@ read_allowed : (z : Sizes) (v : View) (x : Stamp) (r : Rereading) (reads : List 
     → IfSome (reads_next x r) (MayLook z (λ s. ⊤) v)
 read_allowed z v x r reads fits more =
     rw (lt-ltb r.place (size_of x.cell) more)
-    (cell_inside z x.cell fits.stamp.inside, record { stamp = fits.stamp.stamp; free = fits.free; place = (fits.after, more) })
+    (cell_inside z x.cell fits.stamp.inside, record { stamp = fits.stamp.stamp; free = fits.free; place = (fits.after, more) }, fits.path)
 
 -- at each stage, and until it has ended it asks for a step
 module _ (z : Sizes) (k : List ℕ) (t : Position) (o : Cells) (read_set : ReadSet) (lower : List (Option ℕ)) (u v : View) where

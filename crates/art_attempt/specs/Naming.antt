@@ -10,7 +10,7 @@ use Rattle.art_cell.specs.declared.cells.Link.TheVariants.{Node as node}
 use Rattle.art_cell.specs.declared.cells.Node.{Node}
 use Rattle.art_find.specs.Descents.{IsReading}
 use Rattle.art_find.specs.Findings.{IsStanding}
-use Rattle.art_find.specs.Kept.{HasPath, IsKept}
+use Rattle.art_find.specs.Kept.{IsKept}
 use Rattle.art_find.specs.ReadSets.{node_of}
 use Rattle.art_find.specs.Rereadings.{AreKnown}
 use Rattle.art_find.specs.declared.findings.Above.{Above as CellAbove}
@@ -20,6 +20,7 @@ use Rattle.art_attempt.specs.declared.naming.Named.{Named}
 use Rattle.art_attempt.specs.declared.naming.Named.TheVariants.{Unchanged, Changed}
 use Rattle.art_attempt.specs.declared.naming.Naming.{Naming}
 use Rattle.art_attempt.specs.declared.naming.Naming.TheVariants.{Begin, Check, Ended}
+use Rattle.art_machine.specs.Acting.{HasPath}
 use Rattle.art_machine.specs.declared.actions.Action.{Action}
 use Rattle.art_machine.specs.declared.actions.Action.TheVariants as action
 use Rattle.art_plan.specs.ChooseInsert.Bodies.{HasWords}

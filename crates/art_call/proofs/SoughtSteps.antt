@@ -92,15 +92,15 @@ module _ (z : Sizes) (so : Cells → Type 0) (d : Deed) (a : Action) (r : Answer
   pub sought_step : IsStep (kind_of a) z v w
   sought_step = elim may [
     | inl look ↦ look_step z d a r v w (may_looks z so v a look) row
-    | inr all ↦ is_step z (telling d) a r v w (allowed_any z (telling d) v a all) row
+    | inr all ↦ is_step z (telling d) a r v w (allowed_any z (telling d) v a all.1) row
   ]
 
   sought_sees : SeesEvent v w (told_by (stepped_by a r) d)
   sought_sees = elim may [
     | inl look ↦ look_sees z d a r v w (may_looks z so v a look) row
     | inr all ↦
-        let plain = none_plain z v a all in
-        subst (SeesEvent v w) (sym (plain_none d a r plain)) (plain_silent z (telling d) a r v w plain (allowed_any z (telling d) v a all) row)
+        let plain = none_plain z v a all.1 in
+        subst (SeesEvent v w) (sym (plain_none d a r plain)) (plain_silent z (telling d) a r v w plain (allowed_any z (telling d) v a all.1) row)
   ]
 
 any_of : (d : Deed) (v w : View) (s : Stepped) → SeesEvent v w (told_by s d) → MakesAny (is_told s) v w

@@ -7,8 +7,9 @@ use Rattle.art_cell.specs.declared.cells.Node.{Node}
 use Rattle.art_cell.specs.declared.layouts.Layout.{Layout}
 use Rattle.art_cell.specs.declared.layouts.Layout.TheVariants.{Node4, Node16, Node48, Node256}
 use Rattle.art_cell.specs.Words.{size}
-use Rattle.art_find.specs.Asking.{MayLook, WasChecked}
+use Rattle.art_find.specs.Asking.{MayLook}
 use Rattle.art_find.specs.Descents.{IsAbove, IsOn, StageFits, answer_at, asks}
+use Rattle.art_machine.specs.Acting.{HasPath, WasChecked}
 use Rattle.art_find.proofs.Stages.{noted_names}
 use Rattle.art_find.proofs.VerdictValues.{says_value}
 use Rattle.art_find.specs.declared.descents.Stage.{Stage}
@@ -26,7 +27,7 @@ use Rattle.art_step.proofs.Shows.{child_names}
 pub none_held : (v : View) (c : Cell) → v.held ≡ [] → IsNotHeld v.held c
 none_held v c none h i = absurd (subst (Member h) none i)
 
-pub reads_node : (z : Sizes) (u v : View) (y : Stamp) (n : Node) (place : ℕ) → IsOn z u v y n → 0 < place → place < size n.layout → IsInside z y.cell × read.May v y place
+pub reads_node : (z : Sizes) (u v : View) (y : Stamp) (n : Node) (place : ℕ) → IsOn z u v y n → 0 < place → place < size n.layout → IsInside z y.cell × read.May v y place × HasPath v y
 reads_node z u v y n place on after within = (
   subst (IsInside z) (sym on.cell) (subst (HasVersion z) on.cell on.stamp.inside),
   record {
@@ -34,6 +35,7 @@ reads_node z u v y n place on after within = (
     free = none_held v y.cell on.reads.free;
     place = (after, subst (λ (d : Cell). place < size_of d) (sym on.cell) within);
   },
+  on.path,
 )
 
 pub reads_leaf : (z : Sizes) (u v : View) (x : Stamp) (l place : ℕ) (q : List ℕ) → IsAbove z u v x l → place < 10 → Shows z v x (λ s. HasChild s x.cell (leaf l) q) → (l < z.leaves) × read.MayLeaf z v x l place × WasChecked x (leaf l) v
@@ -63,6 +65,7 @@ allowed z k what depth (Anchor x) u v fits = (
     free = none_held v x.cell fits.0.free;
     place = (omega arith, subst (λ (d : Cell). 1 < size_of d) (sym fits.2) (omega arith));
   },
+  fits.3,
 )
 allowed z k what depth (Child x d) u v fits = (fits.1.stamp.inside, record { stamp = fits.1.stamp.stamp; tells = tt })
 allowed z k what depth (Below x n) u v fits = (fits.2, record { pinned = fits.0.pinned; named = noted_names v x (node n) fits.1.noted })

@@ -35,7 +35,7 @@ looked z v so (ReadPin q) may = absurd may
 pub allowed_look : (z : Sizes) (v : View) (so : Cells → Type 0) (a : Action) → ((x : Stamp) → a ≢ Settle x) → MayLook z so v a → IsAllowed z None v a
 allowed_look z v so (Begin c) other may = may
 allowed_look z v so (Read x i) other may = may
-allowed_look z v so (ReadLeaf x l i) other may = (may.0, may.1)
+allowed_look z v so (ReadLeaf x l i) other may = may
 allowed_look z v so (Check x) other may = may
 allowed_look z v so (Settle x) other may = absurd (other x refl)
 allowed_look z v so (Upgrade x) other may = absurd may

@@ -8,7 +8,7 @@ use Rattle.art_cell.specs.declared.cells.Link.{Link}
 use Rattle.art_cell.specs.declared.cells.Link.TheVariants.{Leaf as leaf, Node as node}
 use Rattle.art_cell.specs.declared.cells.Node.{Node}
 use Rattle.art_find.specs.Asking.{MayLook, WantsCheck, WantsVersion}
-use Rattle.art_machine.specs.Acting.{Answers, goes_on, telling}
+use Rattle.art_machine.specs.Acting.{Answers, HasPath, goes_on, telling}
 use Rattle.art_find.specs.Descents.{IsChild, StageFits, Stays, answer_at, asks, most_steps, stage_begun, stage_below, stage_checked, stands_on}
 use Rattle.art_machine.specs.declared.actions.Answer.{Answer}
 use Rattle.art_machine.specs.declared.actions.Answer.TheVariants.{Begun, Word as word_told, Checked, Upgraded, Done}
@@ -20,7 +20,7 @@ use Rattle.art_find.specs.declared.descents.Stage.TheVariants.{Start, Anchor, Ch
 use Rattle.art_find.proofs.Stages.{wants_check, wants_version}
 use Rattle.art_find.specs.ReadSets.{above_of, node_of}
 use Rattle.art_find.specs.Findings.{Enters, IsAboveOf, IsCleared, IsHeard, IsPlaced, IsUnder, Keeps, PlaceFits}
-use Rattle.art_find.specs.Kept.{HasPath, IsKept}
+use Rattle.art_find.specs.Kept.{IsKept}
 use Rattle.art_find.specs.declared.read_sets.ReadSet.{ReadSet}
 use Rattle.art_find.specs.declared.findings.Above.{Above}
 use Rattle.art_find.proofs.Keeping.{Grows, anchor_path, begun_grows, cell_fits, kept_grows, kept_noted, nothing_kept, passed_grows, path_grows, path_passed, read_grows, stamp_grows}

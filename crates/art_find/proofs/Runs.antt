@@ -3,7 +3,7 @@ use Rattle.std.proofs.Common.{◌≡◌, ◌+◌, ◌-◌, ◌<◌, ◌≤◌, �
 use Rattle.std.proofs.lemmas.Bool.{cases_lt}
 use Rattle.std.proofs.lemmas.Option.{same_Some}
 use Rattle.art_cell.specs.Reads.{AreNoted, word_read}
-use Rattle.art_find.proofs.Keeping.{Grows, cell_fits, kept_grows, known_both, read_grows, stamp_grows}
+use Rattle.art_find.proofs.Keeping.{Grows, cell_fits, kept_grows, known_both, path_grows, read_grows, stamp_grows}
 use Rattle.art_find.specs.Kept.{IsKept, StaysRead, WasReadAt}
 use Rattle.art_find.specs.Rereadings.{AreKnown, RereadingFits}
 use Rattle.art_find.specs.Runs.{HasReadOn, HasReadOnly, WereRead}
@@ -110,6 +110,7 @@ module _ (reads reads' : List (Option ℕ)) (place : ℕ) (words : List ℕ) (no
     fits_on m m' at fits further known unknown = record {
       free = still_free v w x only.rest fits.free;
       stamp = stamp_grows z v w x only.grows fits.stamp;
+      path = path_grows v w x only.grows fits.path;
       kept = kept_run fits.kept;
       after = let before = fits.after in omega (arith, at, before, further);
       known = known_both reads' 1 (place + length words) m'.place (known_run (subst (AreKnown reads 1) at fits.known)) known;

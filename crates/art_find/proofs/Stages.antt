@@ -11,8 +11,8 @@ use Rattle.art_cell.specs.declared.cells.Node.{Node}
 use Rattle.art_cell.specs.Children.{link_of}
 use Rattle.art_cell.specs.Words.{Words, packed}
 use Rattle.art_machine.proofs.AnswerKinds.{finds_word, is_begin, is_check}
-use Rattle.art_find.specs.Asking.{WantsCheck, WantsVersion, WantsWord, WasChecked}
-use Rattle.art_machine.specs.Acting.{Answers, telling}
+use Rattle.art_find.specs.Asking.{WantsCheck, WantsVersion, WantsWord}
+use Rattle.art_machine.specs.Acting.{Answers, WasChecked, telling}
 use Rattle.art_find.specs.Compares.{ComparesWord, HasByte, IsBeside, IsWithin, TellsBeside, at_first}
 use Rattle.art_find.specs.declared.compares.Beside.{Beside}
 use Rattle.art_find.specs.Descents.{IsAbove, IsChild, IsOn, IsReading, StageFits, WasNamed, WasNoted, answer_at, asks, ended_at, stage_below, staged}
@@ -29,6 +29,7 @@ use Rattle.art_find.specs.declared.descents.Stage.{Stage}
 use Rattle.art_find.specs.declared.descents.Stage.TheVariants.{Start, Anchor, Child, Below, Both, Header, Prefix, Keys, Slot, Value, Length, Bytes, Decided, Ended}
 use Rattle.art_find.specs.declared.verdicts.Verdict.{Verdict}
 use Rattle.art_find.specs.declared.verdicts.Verdict.TheVariants as verdict
+use Rattle.art_find.proofs.Keeping.{anchor_path, path_grows, path_passed, read_grows}
 use Rattle.art_find.proofs.Judged.{KeyRead, PrefixRead, judged_above, judged_begins, judged_below, judged_empty, judged_ended, judged_found, judged_leaf_above, judged_leaf_below, judged_leaf_ended}
 use Rattle.art_find.proofs.LeafKeys.{leaf_not_torn}
 use Rattle.art_find.proofs.NodeWords.{body_of, child_there, names_none, no_child}
@@ -136,6 +137,7 @@ module _ (z : Sizes) (k : List ℕ) (what : Option ℕ → Deed) (depth : ℕ) (
       reads = reads_on u v w (passed_rest z v w x p) fits.0.reads;
       stamp = passed_stamp z v w x y None p fits.0.stamp;
       cell = fits.0.cell;
+      path = (take depth k, path_passed z v w x y None n (take depth k) p fits.0.stamp.stamp fits.0.cell fits.1.shows);
     },
     fits.1.deep,
     passed_path z v w x y None n (take depth k) p fits.0.stamp.stamp fits.0.cell fits.1.shows,
@@ -151,6 +153,7 @@ module _ (z : Sizes) (k : List ℕ) (what : Option ℕ → Deed) (depth : ℕ) (
     reads_on u v w (begun_rest z v w cell.Anchor x.version row.2) reads,
     begun_stamp z v w cell.Anchor x row.0 row.1 row.2 tt,
     ap (λ (a : Stamp). a.cell) row.0,
+    anchor_path z v w x x.version row.0 row.1 row.2,
   )
 
   pub both_fits : (x y : Stamp) (n : Node) → StageFits z k what depth (Below x n) u v → begin.Outcome z v w (cell.Node n) (Ok y) → StageFits z k what depth (Both x y n) u w
@@ -427,6 +430,7 @@ module _ (z : Sizes) (u v w : View) (y : Stamp) (place word : ℕ) where
     reads = reads_on u v w (read_rest v w y (Word place word) row.is) on.reads;
     stamp = read_stamp z v w y (Word place word) y row.is on.stamp;
     cell = on.cell;
+    path = path_grows v w y (read_grows v w y (Word place word) row.is) on.path;
   }
 
   pub node_word : (c : Cell) → y.cell ≡ c → read.Outcome z v w y place word → Shows z w y (λ s. s c place ≡ word)

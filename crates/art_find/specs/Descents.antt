@@ -5,10 +5,10 @@ use Rattle.art_cell.specs.declared.cells.Link.{Link}
 use Rattle.art_cell.specs.declared.cells.Link.TheVariants.{Leaf as leaf, Node as node}
 use Rattle.art_cell.specs.declared.cells.Node.{Node}
 use Rattle.art_cell.specs.Words.{size}
-use Rattle.art_find.specs.Asking.{WasChecked}
 use Rattle.art_find.specs.Compares.{IsWithin}
 use Rattle.art_find.specs.Verdicts.{Says, value_of}
 use Rattle.art_find.specs.Ways.{IsAtKeys, IsAtLeaf, IsAtSlot, IsInKey, IsInPrefix, IsOnNode, count_in}
+use Rattle.art_machine.specs.Acting.{HasPath, WasChecked}
 use Rattle.art_machine.specs.declared.actions.Answer.{Answer}
 use Rattle.art_find.specs.declared.compares.Beside.{Beside}
 use Rattle.art_machine.specs.declared.actions.Answer.TheVariants.{Begun, Checked}
@@ -151,10 +151,17 @@ pub record IsReading (u v : View) : Type 0 where
   pub pinned : v.pin ≢ 0
 
 -- and the node is stamped
+pub record IsStamped (z : Sizes) (u v : View) (y : Stamp) (n : Node) : Type 0 where
+  pub reads : IsReading u v
+  pub stamp : HasStamp z v y
+  pub cell : y.cell ≡ cell.Node n
+
+-- and a path to it was noted: its words may be read
 pub record IsOn (z : Sizes) (u v : View) (y : Stamp) (n : Node) : Type 0 where
   pub reads : IsReading u v
   pub stamp : HasStamp z v y
   pub cell : y.cell ≡ cell.Node n
+  pub path : HasPath v y
 
 -- or a cell that was checked and names a leaf
 pub record IsAbove (z : Sizes) (u v : View) (x : Stamp) (l : ℕ) : Type 0 where
@@ -210,10 +217,10 @@ pub record IsChild (z : Sizes) (k : List ℕ) (depth : ℕ) (x : Stamp) (d : Lin
 -- at each stage, of a pass that began with the view u and now has the view v; what it does where it settles the answer is this
 abbrev pub StageFits : Sizes → List ℕ → (Option ℕ → Deed) → ℕ → Stage → View → View → Type 0
 StageFits z k what depth Start u v = IsReading u v
-StageFits z k what depth (Anchor x) u v = IsReading u v × HasStamp z v x × (x.cell ≡ cell.Anchor)
+StageFits z k what depth (Anchor x) u v = IsReading u v × HasStamp z v x × (x.cell ≡ cell.Anchor) × HasPath v x
 StageFits z k what depth (Child x d) u v = IsReading u v × IsChild z k depth x d v
 StageFits z k what depth (Below x n) u v = IsReading u v × IsChild z k depth x (node n) v × HasVersion z (cell.Node n)
-StageFits z k what depth (Both x y n) u v = IsOn z u v y n × IsChild z k depth x (node n) v
+StageFits z k what depth (Both x y n) u v = IsStamped z u v y n × IsChild z k depth x (node n) v
 StageFits z k what depth (Header y n) u v = IsOn z u v y n × (depth ≤ length k) × Shows z v y (λ s. IsOnNode s n k depth)
 StageFits z k what depth (Prefix seen i r) u v = IsOn z u v seen.stamp seen.node × IsPrefix z k depth seen i r v
 StageFits z k what depth (Keys seen i) u v = IsOn z u v seen.stamp seen.node × IsSearch z k depth seen i v

@@ -5,7 +5,7 @@ use Rattle.art_cell.specs.declared.cells.Cell.{Cell}
 use Rattle.art_cell.specs.declared.cells.Cell.TheVariants as cell
 use Rattle.art_cell.specs.declared.cells.Link.TheVariants.{Node as node}
 use Rattle.art_cell.specs.declared.cells.Node.{Node}
-use Rattle.art_machine.specs.Acting.{Answers, goes_on, telling}
+use Rattle.art_machine.specs.Acting.{Answers, HasPath, goes_on, telling}
 use Rattle.art_find.specs.Descents.{Fits, IsExact, Stays, asks, decided_at, ended_at, most_steps, stands_on}
 use Rattle.art_find.specs.Verdicts.{Says}
 use Rattle.art_machine.specs.declared.actions.Answer.{Answer}
@@ -15,7 +15,7 @@ use Rattle.art_machine.specs.declared.actions.Action.{Action}
 use Rattle.art_machine.specs.declared.actions.Action.TheVariants.{Read, ReadLeaf, Check, Settle}
 use Rattle.art_find.specs.declared.verdicts.Verdict.{Verdict}
 use Rattle.art_find.specs.ReadSets.{above_of, node_of}
-use Rattle.art_find.specs.Kept.{HasPath, IsKept}
+use Rattle.art_find.specs.Kept.{IsKept}
 use Rattle.art_find.specs.declared.read_sets.ReadSet.{ReadSet}
 use Rattle.art_find.specs.declared.findings.Above.{Above}
 use Rattle.art_find.specs.declared.findings.Finding.{Finding}

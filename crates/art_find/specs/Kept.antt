@@ -2,7 +2,7 @@
 use Rattle.std.specs.Prelude.{◌≡◌, ◌<◌, ℕ, List, Option, Some, length}
 use Rattle.art_cell.specs.Reads.{word_read}
 use Rattle.art_step.specs.Views.{IsWordOf, Member, note_of, size_of}
-use Rattle.art_step.specs.declared.views.Fact.TheVariants.{Starts, Word}
+use Rattle.art_step.specs.declared.views.Fact.TheVariants.{Word}
 use Rattle.art_step.specs.declared.views.Note.{Note}
 use Rattle.art_step.specs.declared.views.Sizes.{Sizes}
 use Rattle.art_step.specs.declared.views.Stamp.{Stamp}
@@ -24,10 +24,6 @@ pub record WasReadAt (z : Sizes) (v : View) (x : Stamp) (place word : ℕ) : Typ
 pub record IsKept (z : Sizes) (v : View) (x : Stamp) (reads : List (Option ℕ)) : Type 0 where
   pub room : length reads ≡ 266
   pub each : (place word : ℕ) → word_read reads place ≡ Some word → WasReadAt z v x place word
-
--- a path to the stamp's cell was noted
-abbrev pub HasPath : View → Stamp → Type 0
-HasPath v x = (q : List ℕ) × Member (note_of x (Starts q)) v.notes
 
 -- each word that was known before is known after, and the same
 abbrev pub StaysRead : List (Option ℕ) → List (Option ℕ) → Type 0

@@ -1,6 +1,7 @@
 -- What is known while all words of a cell are read.
 use Rattle.std.specs.Prelude.{◌≡◌, ◌≤◌, ◌<◌, ◌⊎◌, ℕ, nat_lt, List, Option, Some, None, if◌then◌else◌}
 use Rattle.art_cell.specs.Reads.{word_read}
+use Rattle.art_machine.specs.Acting.{HasPath}
 use Rattle.art_machine.specs.declared.actions.Action.{Action}
 use Rattle.art_machine.specs.declared.actions.Action.TheVariants.{Read}
 use Rattle.art_find.specs.Kept.{IsKept}
@@ -19,10 +20,12 @@ AreKnown reads from end = (place : ℕ) → from ≤ place → place < end → (
 abbrev pub reads_next : Stamp → Rereading → Option Action
 reads_next x m = if nat_lt m.place (size_of x.cell) then Some (Read x m.place) else None
 
--- the cell is stamped and not held, and what is kept of it has all words before the place, and not the one at the place
+-- the cell is stamped and not held, and a path to it was noted; what is kept of it has all words before the place, and not the one at
+-- the place
 pub record RereadingFits (z : Sizes) (v : View) (x : Stamp) (m : Rereading) (reads : List (Option ℕ)) : Type 0 where
   pub free : IsNotHeld v.held x.cell
   pub stamp : HasStamp z v x
+  pub path : HasPath v x
   pub kept : IsKept z v x reads
   pub after : 0 < m.place
   pub known : AreKnown reads 1 m.place

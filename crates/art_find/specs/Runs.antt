@@ -3,15 +3,17 @@ use Rattle.std.specs.Prelude.{◌≡◌, ◌+◌, ◌<◌, ◌≤◌, ℕ, List,
 use Rattle.art_find.specs.Kept.{Grows, StaysRead, WasReadAt}
 use Rattle.art_find.specs.Rereadings.{AreKnown, RereadingFits}
 use Rattle.art_find.specs.declared.rereadings.Rereading.{Rereading}
+use Rattle.art_machine.specs.Acting.{HasPath}
 use Rattle.art_step.specs.Shows.{HasStamp, OnlyReads}
 use Rattle.art_step.specs.Views.{IsNotHeld, size_of}
 use Rattle.art_step.specs.declared.views.Sizes.{Sizes}
 use Rattle.art_step.specs.declared.views.Stamp.{Stamp}
 use Rattle.art_step.specs.declared.views.View.{View}
 
--- so many words from the place on may be read, which are words of the stamped cell after its version
+-- so many words from the place on may be read, which are words of the stamped cell after its version; a path to the cell was noted
 pub record MayReadRun (z : Sizes) (v : View) (x : Stamp) (place n : ℕ) : Type 0 where
   pub stamp : HasStamp z v x
+  pub path : HasPath v x
   pub free : IsNotHeld v.held x.cell
   pub after : 0 < place
   pub inside : place + n ≤ size_of x.cell

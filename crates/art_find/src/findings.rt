@@ -31,8 +31,8 @@
 //! # What it knows
 //!
 //! `FindingFits` says what `Fits` says of the descent, and of the cell where it stands (`IsPlaced`): that each word that is
-//! kept was noted under the cell's stamp (`IsKept`), that a path to the cell was too (`HasPath`), which is what an upgrade asks
-//! for, and that the cell above has the node as its child on the key's way, in each tree in which the notes under its stamp hold
+//! kept was noted under the cell's stamp (`IsKept`), that a path to the cell was too (`HasPath`), which is what a read and an upgrade
+//! ask for, and that the cell above has the node as its child on the key's way, in each tree in which the notes under its stamp hold
 //! (`IsAboveOf`). All of it stays so while the pass only reads: stamps and notes are added, and none goes (`Grows`). Where one goes, at a version
 //! word that is not clear or was changed, the finding restarts, stands nowhere and claims nothing.
 //!

@@ -24,6 +24,7 @@ impl Rereading {
     ghost use Rattle.art_find.specs.Kept.{IsKept, StaysRead};
     ghost use Rattle.art_find.specs.Rereadings.{IsWholeOrLast, RereadingFits, reads_next};
     ghost use Rattle.art_find.specs.Runs.{HasReadOn};
+    ghost use Rattle.art_machine.specs.Acting.{HasPath};
     ghost use Rattle.art_step.specs.Steps.Read.{Outcome as ReadOutcome};
     ghost use Rattle.art_step.specs.Views.{IsNotHeld};
     ghost use Rattle.art_step.specs.Shows.{HasStamp};
@@ -37,7 +38,7 @@ impl Rereading {
         ensures begins { 0 < result.place }
         ensures few { result.place ≤ 266 }
         ensures fits { (z : Sizes) (v : View) (x : StampOf) → IsNotHeld v.held x.cell → HasStamp z v x →
-            IsKept z v x reads.now → RereadingFits z v x result reads.now }
+            HasPath v x → IsKept z v x reads.now → RereadingFits z v x result reads.now }
     {
         Rereading {
             place: unknown_from(reads, 1),

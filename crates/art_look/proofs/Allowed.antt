@@ -25,6 +25,7 @@ allowed z lo hi depth t (Anchor x) u v fits = (
     free = none_held v x.cell fits.0.free;
     place = (omega arith, subst (λ (d : Cell). 1 < size_of d) (sym fits.2) (omega arith));
   },
+  fits.3,
 )
 allowed z lo hi depth t (Child x d) u v fits = (fits.1.stamp.inside, record { stamp = fits.1.stamp.stamp; tells = tt })
 allowed z lo hi depth t (Below x n) u v fits = (fits.2, record { pinned = fits.0.pinned; named = noted_names v x (node n) fits.1.noted })

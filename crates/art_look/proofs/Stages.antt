@@ -28,6 +28,7 @@ use Rattle.art_machine.specs.declared.actions.Action.{Action}
 use Rattle.art_machine.specs.declared.actions.Action.TheVariants.{Settle}
 use Rattle.art_find.specs.declared.descents.LeafSeen.{LeafSeen}
 use Rattle.art_find.specs.declared.descents.NodeSeen.{NodeSeen}
+use Rattle.art_find.proofs.Keeping.{anchor_path, path_passed}
 use Rattle.art_find.proofs.Stages.{begun_names, note_names, passed_names, reads_on, still_named}
 use Rattle.art_key.specs.Bounds.{is_before}
 use Rattle.art_key.specs.declared.bounds.Bound.{Bound as KeyBound}
@@ -113,6 +114,7 @@ module _ (z : Sizes) (lo : List ℕ) (hi : KeyBound) (depth : ℕ) (t : PathBuff
       reads = reads_on u v w (passed_rest z v w x p) fits.0.reads;
       stamp = passed_stamp z v w x y None p fits.0.stamp;
       cell = fits.0.cell;
+      path = (q, path_passed z v w x y None n q p fits.0.stamp.stamp fits.0.cell fits.1.shows);
     },
     record {
       long = fits.1.long;
@@ -135,6 +137,7 @@ module _ (z : Sizes) (lo : List ℕ) (hi : KeyBound) (depth : ℕ) (t : PathBuff
     reads_on u v w (begun_rest z v w cell.Anchor x.version row.2) reads,
     begun_stamp z v w cell.Anchor x row.0 row.1 row.2 tt,
     ap (λ (a : Stamp). a.cell) row.0,
+    anchor_path z v w x x.version row.0 row.1 row.2,
   )
 
   pub both_fits : (x y : Stamp) (n : Node) → StageFits z lo hi depth (Below x n) t u v → begin.Outcome z v w (cell.Node n) (Ok y) → StageFits z lo hi depth (Both x y n) t u w

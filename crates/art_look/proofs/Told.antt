@@ -78,7 +78,7 @@ module _ (z : Sizes) (so : Cells → Type 0) (d : Deed) (r : Answer) (v w : View
   pin_one : (x : ℕ) → MaySeek z so v (StorePin x) → Answers z (telling d) (StorePin x) r v w → w.steps ≡ v.steps + 1
   pin_one x may row = elim may [
     | inl look ↦ absurd look
-    | inr all ↦ one r (steps_made z (telling d) (StorePin x) r v w all row) row
+    | inr all ↦ one r (steps_made z (telling d) (StorePin x) r v w all.1 row) row
   ]
     where
       one : (s : Answer) → w.steps ≡ v.steps + steps_in s → Answers z (telling d) (StorePin x) s v w → w.steps ≡ v.steps + 1
@@ -91,7 +91,7 @@ module _ (z : Sizes) (so : Cells → Type 0) (d : Deed) (r : Answer) (v w : View
   pin_sees : (x : ℕ) → MaySeek z so v (StorePin x) → Answers z (telling d) (StorePin x) r v w → SeesEvent v w None
   pin_sees x may row = elim may [
     | inl look ↦ absurd look
-    | inr all ↦ plain_silent z (telling d) (StorePin x) r v w tt all row
+    | inr all ↦ plain_silent z (telling d) (StorePin x) r v w tt all.1 row
   ]
 
   -- ---- of each

@@ -1,5 +1,5 @@
 -- What each step of a seek needs of the pass's view, and which kind of step it was.
-use Rattle.std.specs.Prelude.{ℕ, ◌+◌, ◌⊎◌, Bool, true, false, Option, Some, None, Ok}
+use Rattle.std.specs.Prelude.{◌≡◌, ℕ, ◌+◌, ◌⊎◌, Bool, true, false, Option, Some, None, Ok}
 use Rattle.art_find.specs.Asking.{MayLook}
 use Rattle.art_find.specs.Driven.{restarts_after}
 use Rattle.art_machine.specs.Acting.{IsAllowed, goes_on, is_look}
@@ -14,9 +14,9 @@ use Rattle.art_step.specs.declared.views.Sizes.{Sizes}
 use Rattle.art_step.specs.declared.views.View.{View}
 use Rattle.art_tree.specs.Heaps.{Cells}
 
--- it may be made: a look of a walk that settles that this is so, or what needs no effects
+-- it may be made: a look of a walk that settles that this is so, or what is no look and needs no effects
 abbrev pub MaySeek : Sizes → (Cells → Type 0) → View → Action → Type 0
-MaySeek z so v a = MayLook z so v a ⊎ IsAllowed z None v a
+MaySeek z so v a = MayLook z so v a ⊎ ((is_look a ≡ false) × IsAllowed z None v a)
 
 -- how often it restarted, after this answer
 abbrev pub restarts_told : Answer → ℕ → ℕ

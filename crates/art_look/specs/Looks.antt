@@ -7,8 +7,9 @@ use Rattle.art_cell.specs.declared.cells.Node.{Node}
 use Rattle.art_cell.specs.declared.layouts.Layout.{Layout}
 use Rattle.art_cell.specs.declared.layouts.Layout.TheVariants.{Node4, Node16, Node48, Node256}
 use Rattle.art_cell.specs.Words.{size}
-use Rattle.art_find.specs.Descents.{IsAbove, IsOn, IsReading, WasNamed}
+use Rattle.art_find.specs.Descents.{IsAbove, IsOn, IsReading, IsStamped, WasNamed}
 use Rattle.art_find.specs.Ways.{count_in}
+use Rattle.art_machine.specs.Acting.{HasPath}
 use Rattle.art_machine.specs.declared.actions.Action.{Action}
 use Rattle.art_machine.specs.declared.actions.Action.TheVariants.{Begin, Read, ReadLeaf, Check, Settle}
 use Rattle.art_find.specs.declared.descents.LeafSeen.{LeafSeen}
@@ -200,10 +201,10 @@ pub record IsInKey (z : Sizes) (lo : List ℕ) (seen : LeafSeen) (i : ℕ) (q k 
 -- at each stage, of a pass that began with the view u and now has the view v
 abbrev pub StageFits : Sizes → List ℕ → KeyBound → ℕ → LookStage → PathBuffer → View → View → Type 0
 StageFits z lo hi depth Start t u v = IsReading u v
-StageFits z lo hi depth (Anchor x) t u v = IsReading u v × HasStamp z v x × (x.cell ≡ cell.Anchor)
+StageFits z lo hi depth (Anchor x) t u v = IsReading u v × HasStamp z v x × (x.cell ≡ cell.Anchor) × HasPath v x
 StageFits z lo hi depth (Child x d) t u v = IsReading u v × IsNamed z lo depth x d t.path.items v
 StageFits z lo hi depth (Below x n) t u v = IsReading u v × IsNamed z lo depth x (node n) t.path.items v × HasVersion z (cell.Node n)
-StageFits z lo hi depth (Both x y n) t u v = IsOn z u v y n × IsNamed z lo depth x (node n) t.path.items v
+StageFits z lo hi depth (Both x y n) t u v = IsStamped z u v y n × IsNamed z lo depth x (node n) t.path.items v
 StageFits z lo hi depth (Header y n) t u v = IsOn z u v y n × IsEntered z lo depth y n t.path.items v
 StageFits z lo hi depth (Prefix seen i) t u v = IsOn z u v seen.stamp seen.node × IsSpelled z lo depth seen i t.path.items v
 StageFits z lo hi depth (Keys seen f i) t u v = IsOn z u v seen.stamp seen.node × IsInKeys z lo depth seen f i t.path.items v

@@ -28,19 +28,21 @@ use Rattle.art_step.specs.Steps.Upgrade as upgrade
 use Rattle.art_step.specs.Steps.Watch as watch
 use Rattle.art_step.specs.Steps.Write as write
 use Rattle.art_step.specs.Tokens.{links_of}
-use Rattle.art_step.specs.Views.{IsHolding, IsInHand, IsOnce, IsWordOf, MayLock, Member, links_in_limbo, note_of}
+use Rattle.art_step.specs.Views.{IsHolding, IsInHand, IsOnce, IsWordOf, MayLock, Member, NamesLink, links_in_limbo, note_of}
 use Rattle.art_step.specs.WordPlaces.{HasVersion, IsInside}
 use Rattle.art_step.specs.declared.deeds.Deed.{Deed}
 use Rattle.art_step.specs.declared.faults.UpgradeFault.{UpgradeFault}
 use Rattle.art_step.specs.declared.faults.UpgradeFault.TheVariants as fault
 use Rattle.art_step.specs.declared.step_kinds.StepKind.{StepKind}
 use Rattle.art_step.specs.declared.step_kinds.StepKind.TheVariants as kind
+use Rattle.art_step.specs.declared.views.Fact.{Fact}
 use Rattle.art_step.specs.declared.views.Fact.TheVariants.{Starts}
 use Rattle.art_step.specs.declared.views.Holding.{Holding}
 use Rattle.art_step.specs.declared.views.InHand.{InHand}
 use Rattle.art_step.specs.declared.views.Sizes.{Sizes}
 use Rattle.art_step.specs.declared.views.Stamp.{Stamp}
 use Rattle.art_step.specs.declared.views.View.{View}
+use Rattle.art_step.specs.declared.views.Word.TheVariants.{Version}
 use Rattle.art_tree.specs.WordChanges.{FitsWord}
 
 -- ---- effects
@@ -61,13 +63,27 @@ tells d = record { deed = d; leaf = None; unlinked = record { items = [] } }
 abbrev pub telling : Deed → Option Effects
 telling d = Some (tells d)
 
+-- ---- what was noted of the stamp's cell
+
+-- a path to it
+abbrev pub HasPath : View → Stamp → Type 0
+HasPath v x = (q : List ℕ) × Member (note_of x (Starts q)) v.notes
+
+-- a word that names the link was read under the stamp before the last check that succeeded, and that was the check of the stamp:
+-- it found the stamp's version word
+pub record WasChecked (x : Stamp) (d : Link) (v : View) : Type 0 where
+  pub fact : Fact
+  pub noted : Member (note_of x fact) v.checked.notes
+  pub names : NamesLink fact d
+  pub found : Member (record { word = Version x.cell x.version; step = v.checked.step }) v.found
+
 -- ---- what an action needs
 
 -- an upgrade
 pub record MayUpgrade (z : Sizes) (v : View) (x : Stamp) : Type 0 where
   pub inside : HasVersion z x.cell
   pub stamp : Member x v.stamps
-  pub path : (q : List ℕ) × Member (note_of x (Starts q)) v.notes
+  pub path : HasPath v x
   pub early : MayLock v
   pub unclaimed : upgrade.HasClaimedNone v
 
@@ -103,11 +119,12 @@ pub record MayRelease (z : Sizes) (v : View) (c : Cell) (obsolete : Bool) : Type
   pub cell : holding.cell ≡ c
   pub may : release.May v holding obsolete
 
--- the action may be performed, with these effects
+-- the action may be performed, with these effects: a word of a cell is read where a path to the cell was noted, and one of a leaf
+-- where the cell that names it was checked
 abbrev pub IsAllowed : Sizes → Option Effects → View → Action → Type 0
 IsAllowed z o v (Begin c) = HasVersion z c × begin.May v c
-IsAllowed z o v (Read x i) = IsInside z x.cell × read.May v x i
-IsAllowed z o v (ReadLeaf x l i) = (l < z.leaves) × read.MayLeaf z v x l i
+IsAllowed z o v (Read x i) = IsInside z x.cell × read.May v x i × HasPath v x
+IsAllowed z o v (ReadLeaf x l i) = (l < z.leaves) × read.MayLeaf z v x l i × WasChecked x (leaf l) v
 IsAllowed z o v (Check x) = HasVersion z x.cell × check.May z v x None
 IsAllowed z (Some e) v (Settle x) = HasVersion z x.cell × check.May z v x (Some e.deed)
 IsAllowed z None v (Settle x) = ⊥

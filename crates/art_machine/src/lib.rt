@@ -19,7 +19,8 @@
 //! # What is proved
 //!
 //! `specs/Acting.antt` says for each action what a pass needs to know before it (`IsAllowed`), and what it knows after it by the answer
-//! (`Answers`): an answer of another kind cannot come. `perform` is by these two.
+//! (`Answers`): an answer of another kind cannot come. `perform` is by these two. No word of a node is read before a path to it was
+//! noted, and none of a leaf before the check of the cell that names it.
 #![tactic(auto)]
 
 mod actions;

@@ -12,11 +12,12 @@ use Rattle.art_cell.specs.declared.cells.Node.{Node}
 use Rattle.art_plan.specs.ChooseInsert.Bodies.{AreWithin, HasWords, IsFilled}
 use Rattle.art_find.specs.ReadSets.{above_of, node_of}
 use Rattle.art_find.specs.Findings.{IsAboveOf, IsStanding, IsUnder}
-use Rattle.art_find.specs.Kept.{HasPath, IsKept, WasReadAt}
+use Rattle.art_find.specs.Kept.{IsKept, WasReadAt}
 use Rattle.art_find.specs.Rereadings.{AreKnown}
 use Rattle.art_find.specs.declared.read_sets.ReadSet.{ReadSet}
 use Rattle.art_find.specs.declared.findings.Above.{Above}
 use Rattle.art_find.specs.declared.findings.Position.{Position}
+use Rattle.art_machine.specs.Acting.{HasPath}
 use Rattle.art_plan.specs.Changes.{MayTarget}
 use Rattle.art_plan.specs.Seen.{IsReadRoot, IsReadWhole, kept}
 use Rattle.art_step.proofs.WordForms.{no_word}

@@ -25,7 +25,7 @@ perform-requires-clause-allowed g c =
     let asked = c.requires.asked (subst IsToSettle (sym c.in-Settle.is) tt) ∙ ap (λ (a : Action). Some a) c.in-Settle.is in
     let tells_so : IsAllowed z (telling (deed_at w k hi t)) v (Settle x) = elim (subst (MaySeek z (Settles w k t) v) c.in-Settle.is c.requires.allowed) [
       | inl look ↦ (look.0, may_settle z k hi t v w x asked look.1)
-      | inr none ↦ absurd none
+      | inr none ↦ absurd none.1
     ] in
     let same = c.telling-effects.ensures ∙ ap tells c.deed.ensures in
     subst (λ (e : Effects). IsAllowed z (Some e) v c.args.action) (sym same) (subst (λ (a : Action). IsAllowed z (telling (deed_at w k hi t)) v a) (sym c.in-Settle.is) tells_so)
@@ -37,5 +37,5 @@ perform-requires-in_default-clause-allowed g c =
     let so = Settles c.args.walk.now c.args.key.now c.args.path_buffer.now in
     elim c.requires.allowed [
       | inl look ↦ allowed_look z v so c.args.action c.in_default.not-Settle look
-      | inr all ↦ all
+      | inr all ↦ all.1
     ]

@@ -1,5 +1,6 @@
 use Rattle.std.proofs.Common.{◌≡◌, ◌+◌, ◌<◌, ◌∙◌, ℕ, List, Option, Some, ap, refl, sym, arith}
 use Rattle.art_find.specs.Descents.{asks}
+use Rattle.art_machine.specs.Acting.{HasPath}
 use Rattle.art_machine.specs.declared.actions.Action.TheVariants.{Read}
 use Rattle.art_find.proofs.Hearing.{may_look}
 use Rattle.art_find.proofs.Keeping.{cell_fits}
@@ -17,7 +18,7 @@ use Rattle.art_find.proofs.findings.Finding.read_on.Goals as goal
 -- the word that it asks for may be read, and is one of its cell
 module _ (z : Sizes) (k : List ℕ) (m : Finding) (read_set : ReadSet) (v : View) (q : (what : Option ℕ → Deed) × (u : View) × FindingFits z k what m read_set u v)
     (x : Stamp) (place : ℕ) (is : asks m.descent.stage ≡ Some (Read x place)) where
-  may_read : IsInside z x.cell × read.May v x place
+  may_read : IsInside z x.cell × read.May v x place × HasPath v x
   may_read = may_look z k q.0 m read_set q.1 v (Read x place) is q.2
 
   few_words : place < 266

@@ -131,6 +131,7 @@ read_run-requires g c =
     let end = c.words_of-end.ensures in
     record {
       stamp = subst (λ (z : Sizes). HasStamp z v c.args.stamp) (sym i.sizes) i.read.fits.stamp;
+      path = i.read.fits.path;
       free = i.read.fits.free;
       after = i.read.fits.after;
       inside = omega (arith, long, least, fewer, low, end);
