@@ -26,6 +26,7 @@ use Rattle.art_attempt.specs.declared.naming.Naming.TheVariants as names
 use Rattle.art_attempt.specs.declared.reserve.Reserve.{Reserve}
 use Rattle.art_attempt.specs.declared.reserve.Reserve.TheVariants as supply
 use Rattle.art_attempt.specs.declared.validate.Cells.{Cells}
+use Rattle.art_attempt.specs.declared.validate.Role.TheVariants.{Lower}
 use Rattle.art_attempt.specs.declared.validate.Validate.{Validate}
 use Rattle.art_attempt.specs.declared.validate.Validate.TheVariants as checks
 use Rattle.art_machine.proofs.Counting.{look_counts, steps_made}
@@ -90,7 +91,9 @@ check_looks o a is = let k = map_some checks_of o a is in subst IsCellLook k.2 t
 
 pub validate_looks : (t : Position) (o : Cells) (m : Validate) (a : Action) → validate.asks t o m ≡ Some a → IsCellLook a
 validate_looks t o (checks.Read role r) a is = read_looks r (validate.stamp_of t o role) a is
+validate_looks t o (checks.Header r) a is = read_looks r (validate.stamp_of t o Lower) a is
 validate_looks t o (checks.Check role) a is = check_looks (validate.stamp_of t o role) a is
+validate_looks t o checks.Torn a is = check_looks (validate.stamp_of t o Lower) a is
 validate_looks t o (checks.Ended e) a is = absurd (cc)
 
 pub naming_looks : (t : Position) (m : Naming) (a : Action) → naming.asks t m ≡ Some a → IsCellLook a

@@ -86,12 +86,16 @@ module _ (z : Sizes) (u early : View) (base : StillTries u early) (r : Room) (v 
 pub validated_as : (m : Validate) (e : Validated) → validate.ended_at m ≡ Some e → m ≡ checks.Ended e
 validated_as (checks.Ended r) e is = ap checks.Ended (same_Some {A = Validated} r e is)
 validated_as (checks.Read role r) e is = cc
+validated_as (checks.Header r) e is = cc
 validated_as (checks.Check role) e is = cc
+validated_as checks.Torn e is = cc
 
 -- a validation that has not ended met no failure
 going_failures : (t : Position) (o : Cells) (m : Validate) (a : Action) (n : ℕ) → validate.asks t o m ≡ Some a → validate.failures_of m n ≡ n
 going_failures t o (checks.Read role r) a n is = refl
+going_failures t o (checks.Header r) a n is = refl
 going_failures t o (checks.Check role) a n is = refl
+going_failures t o checks.Torn a n is = refl
 going_failures t o (checks.Ended e) a n is = cc
 
 -- so where it ends as changed, it is the answer that does not go on
@@ -110,7 +114,9 @@ changed_by z k t o m m' read_set read_set' lower lower' d a r u v w before after
 -- as long as it goes on it has only read
 pub validate_reads : (z : Sizes) (k : List ℕ) (t : Position) (o : Cells) (m : Validate) (read_set : ReadSet) (lower : List (Option ℕ)) (u v : View) → validate.StageFits z k t o m read_set lower u v → IsReading u v
 validate_reads z k t o (checks.Read role r) read_set lower u v fits = fits.0.stands.reads
+validate_reads z k t o (checks.Header r) read_set lower u v fits = fits.0.stands.reads
 validate_reads z k t o (checks.Check role) read_set lower u v fits = fits.0.stands.reads
+validate_reads z k t o checks.Torn read_set lower u v fits = fits.0.stands.reads
 validate_reads z k t o (checks.Ended Unchanged) read_set lower u v fits = fits.0.stands.reads
 validate_reads z k t o (checks.Ended Changed) read_set lower u v fits = fits
 

@@ -15,6 +15,7 @@ pub mod Given
 mod Heard
 pub mod LastCheck
 pub mod Left
+mod LongPaths
 pub mod Looks
 mod LowerBegins
 pub mod LowerNames

@@ -16,7 +16,9 @@ use Rattle.art_make.specs.declared.apply.Apply.TheVariants.{Upgrading, Claiming,
 
 pub no_fewer : (m : Validate) (n : ℕ) → n ≤ failures_of m n
 no_fewer (checks.Read role r) n = omega arith
+no_fewer (checks.Header r) n = omega arith
 no_fewer (checks.Check role) n = omega arith
+no_fewer checks.Torn n = omega arith
 no_fewer (checks.Ended validated.Unchanged) n = omega arith
 no_fewer (checks.Ended validated.Changed) n = omega arith
 

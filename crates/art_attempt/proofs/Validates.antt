@@ -30,7 +30,7 @@ use Rattle.art_attempt.specs.declared.validate.Cells.{Cells}
 use Rattle.art_attempt.specs.declared.validate.Role.{Role}
 use Rattle.art_attempt.specs.declared.validate.Role.TheVariants.{Above, Here, Lower}
 use Rattle.art_attempt.specs.declared.validate.Validate.{Validate}
-use Rattle.art_attempt.specs.declared.validate.Validate.TheVariants.{Read, Check, Ended}
+use Rattle.art_attempt.specs.declared.validate.Validate.TheVariants.{Read, Header, Check, Torn, Ended}
 use Rattle.art_attempt.specs.declared.validate.Validated.TheVariants.{Unchanged}
 use Rattle.art_machine.proofs.Words.{word_row}
 use Rattle.art_machine.specs.Acting.{Answers, HasPath, telling, word_in}
@@ -68,7 +68,7 @@ over_by false o a wide is = cc
 pub over_stamp : (t : Position) (o : Cells) (a : CellAbove) → o.above ≡ true → t.above ≡ Some a → stamp_of t o Above ≡ Some a.stamp
 over_stamp t o a wide is = over_by o.above t.above a wide is
 
-lower_by : (o : Option LowerNode) (x : Stamp) → option_map stamp_below o ≡ Some x → (l : LowerNode) × (o ≡ Some l) × (l.stamp ≡ x)
+pub lower_by : (o : Option LowerNode) (x : Stamp) → option_map stamp_below o ≡ Some x → (l : LowerNode) × (o ≡ Some l) × (l.stamp ≡ x)
 lower_by (Some l) x is = (l, refl, same_Some {A = Stamp} l.stamp x is)
 lower_by None x is = cc
 
@@ -372,8 +372,16 @@ module _ (z : Sizes) (k : List ℕ) (t : Position) (o : Cells) (read_set : ReadS
       let reading = fits.2 in
       subst (λ (x : Option Stamp). IfSome (option_and_then (reads_by r) x) (MayLook z (λ s. ⊤) v)) (sym reading.is)
       (read_allowed z v reading.stamp r (reads_of read_set lower role) reading.fits reading.more)
+  allowed (Header r) fits =
+      let reading = fits.2 in
+      subst (λ (x : Option Stamp). IfSome (option_and_then (reads_by r) x) (MayLook z (λ s. ⊤) v)) (sym reading.is)
+      (read_allowed z v reading.stamp r lower reading.fits reading.more)
   allowed (Check role) fits =
       let x = fits.3 in
       subst (λ (y : Option Stamp). IfSome (option_map checks_of y) (MayLook z (λ s. ⊤) v)) (sym x.1)
       (check_allowed z v x.0 (cell_known z k t o read_set lower u v fits.0 role x.0 x.1).0)
+  allowed Torn fits =
+      let x = fits.3 in
+      subst (λ (y : Option Stamp). IfSome (option_map checks_of y) (MayLook z (λ s. ⊤) v)) (sym x.1)
+      (check_allowed z v x.0 (cell_known z k t o read_set lower u v fits.0 Lower x.0 x.1).0)
   allowed (Ended e) fits = tt

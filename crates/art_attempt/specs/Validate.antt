@@ -1,10 +1,12 @@
 -- What a validation asks, and what it knows between two of its steps.
-use Rattle.std.specs.Prelude.{◌≡◌, ℕ, ◌+◌, ◌-◌, ◌<◌, ◌≤◌, List, Bool, Option, Some, None, ⊤, if◌then◌else◌}
+use Rattle.std.specs.Prelude.{◌≡◌, ℕ, ◌+◌, ◌-◌, ◌<◌, ◌≤◌, nat_lt, List, Bool, Option, Some, None, unwrap_or, ⊤, if◌then◌else◌}
 use Rattle.std.specs.Option.{option_map, option_and_then}
+use Rattle.art_cell.specs.Reads.{word_read}
 use Rattle.art_find.specs.Descents.{IsReading}
 use Rattle.art_find.specs.Kept.{StaysRead}
 use Rattle.art_find.specs.ReadSets.{above_of, node_of}
 use Rattle.art_find.specs.Rereadings.{AreKnown, RereadingFits, reads_next}
+use Rattle.art_find.specs.Ways.{count_in}
 use Rattle.art_find.specs.declared.findings.Above.{Above as CellAbove}
 use Rattle.art_find.specs.declared.findings.Position.{Position}
 use Rattle.art_find.specs.declared.read_sets.ReadSet.{ReadSet}
@@ -14,7 +16,7 @@ use Rattle.art_attempt.specs.declared.validate.Cells.{Cells}
 use Rattle.art_attempt.specs.declared.validate.Role.{Role}
 use Rattle.art_attempt.specs.declared.validate.Role.TheVariants.{Above, Here, Lower}
 use Rattle.art_attempt.specs.declared.validate.Validate.{Validate}
-use Rattle.art_attempt.specs.declared.validate.Validate.TheVariants.{Read, Check, Ended}
+use Rattle.art_attempt.specs.declared.validate.Validate.TheVariants.{Read, Header, Check, Torn, Ended}
 use Rattle.art_attempt.specs.declared.validate.Validated.{Validated}
 use Rattle.art_attempt.specs.declared.validate.Validated.TheVariants.{Unchanged, Changed}
 use Rattle.art_machine.specs.Acting.{passed}
@@ -79,13 +81,18 @@ checks_of x = action.Check x
 -- the next step
 abbrev pub asks : Position → Cells → Validate → Option Action
 asks t o (Read role r) = option_and_then (reads_by r) (stamp_of t o role)
+asks t o (Header r) = option_and_then (reads_by r) (stamp_of t o Lower)
 asks t o (Check role) = option_map checks_of (stamp_of t o role)
+asks t o Torn = option_map checks_of (stamp_of t o Lower)
 asks t o (Ended e) = None
 
 -- how it ended, if it has
 abbrev pub ended_at : Validate → Option Validated
+ended_at (Read role r) = None
+ended_at (Header r) = None
+ended_at (Check role) = None
+ended_at Torn = None
 ended_at (Ended e) = Some e
-ended_at m = None
 
 -- how many steps it makes at most after the words of this cell, and where it is checked: a cell has at most 265 words after its version word
 abbrev pub left_after : Role → ℕ
@@ -101,13 +108,19 @@ left_from Lower = 1
 -- from here on
 abbrev pub steps_left : Validate → ℕ
 steps_left (Read role r) = 266 - r.place + left_after role
+steps_left (Header r) = 266 - r.place + left_after Lower
 steps_left (Check role) = left_from role
+steps_left Torn = left_from Lower
 steps_left (Ended e) = 0
 
 -- how many failures there are, of so many at the beginning: a check that failed is one more
 abbrev pub failures_of : Validate → ℕ → ℕ
+failures_of (Read role r) n = n
+failures_of (Header r) n = n
+failures_of (Check role) n = n
+failures_of Torn n = n
+failures_of (Ended Unchanged) n = n
 failures_of (Ended Changed) n = n + 1
-failures_of m n = n
 
 -- no step failed since the view u, and those that were made since and those that are left are at most so many
 pub record HasLeft (u v : View) (left most : ℕ) : Type 0 where
@@ -127,6 +140,11 @@ abbrev pub next_check : Cells → Role → Validate
 next_check o Above = Check Here
 next_check o Here = check_below o.lower
 next_check o Lower = Ended Unchanged
+
+-- what comes after the header of the node below is known, by which its path with its prefix has so many bytes: its check where they are
+-- more than in any tree, and else this
+abbrev pub after_header : ℕ → Validate → Validate
+after_header bytes next = if nat_lt 63 bytes then Torn else next
 
 -- a check that succeeded leads to the next one
 abbrev pub after_check : Answer → Validate → Validate
@@ -150,6 +168,38 @@ pub record Knows (z : Sizes) (k : List ℕ) (t : Position) (o : Cells) (read_set
 abbrev pub KnowsWords : Position → Cells → ReadSet → List (Option ℕ) → Role → Type 0
 KnowsWords t o read_set lower role =
     (x : Stamp) → stamp_of t o role ≡ Some x → AreKnown (reads_of read_set lower role) 1 (size_of x.cell)
+
+-- how many bytes the prefix of a node has, by the words that were read of it
+abbrev pub prefix_in : List (Option ℕ) → ℕ
+prefix_in reads = count_in (unwrap_or (word_read reads 1) 0)
+
+-- how many bytes lead to what the cell above names; above the anchor is none
+abbrev pub depth_under : Option CellAbove → ℕ
+depth_under (Some a) = a.depth
+depth_under None = 0
+
+-- how many bytes the path of the node below has with its prefix: those that lead to the node where the key stands, the prefix of that
+-- node, one byte, and its own prefix
+abbrev pub path_below : Position → ReadSet → List (Option ℕ) → ℕ
+path_below t read_set lower = depth_under t.above + prefix_in (node_of read_set) + 1 + prefix_in lower
+
+-- its header is known, by which they are no more than in a tree
+pub record IsShort (t : Position) (read_set : ReadSet) (lower : List (Option ℕ)) : Type 0 where
+  pub header : ℕ
+  pub known : word_read lower 1 ≡ Some header
+  pub short : path_below t read_set lower ≤ 63
+
+-- or by which they are more
+pub record IsLong (t : Position) (read_set : ReadSet) (lower : List (Option ℕ)) : Type 0 where
+  pub header : ℕ
+  pub known : word_read lower 1 ≡ Some header
+  pub long : 63 < path_below t read_set lower
+
+-- words of the cell in this role may be read: of the node below none but the header, unless that tells a short path
+abbrev pub MayRead : Position → ReadSet → List (Option ℕ) → Role → Type 0
+MayRead t read_set lower Above = ⊤
+MayRead t read_set lower Here = ⊤
+MayRead t read_set lower Lower = IsShort t read_set lower
 
 -- the version word of the stamp's cell was found at that step, as it is stamped
 abbrev pub FoundAt : Stamp → ℕ → View → Type 0
@@ -200,9 +250,13 @@ pub record IsRereading (z : Sizes) (t : Position) (o : Cells) (read_set : ReadSe
 -- at each stage
 abbrev pub StageFits : Sizes → List ℕ → Position → Cells → Validate → ReadSet → List (Option ℕ) → View → View → Type 0
 StageFits z k t o (Read role r) read_set lower u v = Knows z k t o read_set lower u v × Until (KnowsWords t o read_set lower) role ×
-    IsRereading z t o read_set lower v role r
+    IsRereading z t o read_set lower v role r × MayRead t read_set lower role
+StageFits z k t o (Header r) read_set lower u v = Knows z k t o read_set lower u v × Until (KnowsWords t o read_set lower) Lower ×
+    IsRereading z t o read_set lower v Lower r × (r.place ≡ 1)
 StageFits z k t o (Check role) read_set lower u v = Knows z k t o read_set lower u v × Each (KnowsWords t o read_set lower) ×
     Until (RoleWasChecked z k t o read_set lower u v) role × ((x : Stamp) × (stamp_of t o role ≡ Some x))
+StageFits z k t o Torn read_set lower u v = Knows z k t o read_set lower u v × Until (KnowsWords t o read_set lower) Lower ×
+    IsLong t read_set lower × ((x : Stamp) × (stamp_of t o Lower ≡ Some x))
 StageFits z k t o (Ended Unchanged) read_set lower u v = Knows z k t o read_set lower u v × IsValidated z k t o read_set lower u v
 StageFits z k t o (Ended Changed) read_set lower u v = IsReading u v
 

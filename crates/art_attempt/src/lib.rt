@@ -65,6 +65,9 @@
 //! left to read: an unchanged version word shows that at this step there is a tree that has all that was noted, and not only
 //! the words of that cell (`WasVouched` of `art_plan`). Without the second check a plan could join words of different trees.
 //!
+//! Of C the header is read first. In a tree the path of a node has at most 63 bytes with its prefix. Where the header tells a prefix
+//! with which that of C has more, no other word of C is read: its check comes at once, and fails (`Torn`).
+//!
 //! # Naming
 //!
 //! C is a node that no descent led to: one word of N names it. Before it is validated it is stamped, and N is checked

@@ -1,5 +1,5 @@
 //! All words of the cells that a change writes are read, and then each of them is checked.
-ghost use Rattle.std.specs.Prelude.{◌≡◌, ◌⊎◌, ℕ, ◌+◌, ◌-◌, ◌<◌, ◌≤◌, List, Option, Some, None, IfNone, IfSome};
+ghost use Rattle.std.specs.Prelude.{◌≡◌, ◌⊎◌, ℕ, ◌+◌, ◌-◌, ◌<◌, ◌≤◌, nat_lt, List, Option, Some, None, IfNone, IfSome};
 ghost use Rattle.art_cell.specs.Reads.{word_read};
 ghost use Rattle.art_find.specs.Kept.{StaysRead};
 ghost use Rattle.art_find.specs.ReadSets.{node_of};
@@ -7,11 +7,12 @@ ghost use Rattle.art_find.specs.Rereadings.{IsWholeOrLast, RereadingFits};
 ghost use Rattle.art_find.specs.Runs.{HasReadOn};
 ghost use Rattle.art_find.specs.declared.read_sets.ReadSet.{ReadSet as ReadSetOf};
 ghost use Rattle.art_attempt.specs.Reserve.{StayFound};
-ghost use Rattle.art_attempt.specs.Validate.{Fits, HasLeft, IsRereading, Knows, KnowsWords, NodeStays, OthersStay, Until, after_check};
-ghost use Rattle.art_attempt.specs.Validate.{asks, check_below, ended_at, first_check, left_after, next_check, over_of, reads_of};
-ghost use Rattle.art_attempt.specs.Validate.{stamp_of, steps_left};
-ghost use Rattle.art_attempt.specs.declared.validate.Role.TheVariants.{Above as over, Here as here};
-ghost use Rattle.art_attempt.specs.declared.validate.Validate.TheVariants.{Read as reading};
+ghost use Rattle.art_attempt.specs.Validate.{Fits, HasLeft, IsRereading, Knows, KnowsWords, MayRead, NodeStays, OthersStay, Until};
+ghost use Rattle.art_attempt.specs.Validate.{after_check, after_header, asks, check_below, depth_under, ended_at, first_check};
+ghost use Rattle.art_attempt.specs.Validate.{left_after, next_check, over_of, path_below, prefix_in, reads_of, stamp_of, steps_left};
+ghost use Rattle.art_attempt.specs.declared.validate.Cells.{Cells as CellsOf};
+ghost use Rattle.art_attempt.specs.declared.validate.Role.TheVariants.{Above as over, Here as here, Lower as under};
+ghost use Rattle.art_attempt.specs.declared.validate.Validate.TheVariants.{Header as heading, Read as reading};
 ghost use Rattle.art_attempt.specs.declared.validate.Validated.{Validated as ValidatedOf};
 ghost use Rattle.art_machine.specs.Acting.{Answers, telling};
 ghost use Rattle.art_machine.specs.Turns.{Spends};
@@ -24,8 +25,9 @@ ghost use Rattle.art_step.specs.declared.views.Stamp.{Stamp as StampOf};
 ghost use Rattle.art_step.specs.declared.views.View.{View};
 
 use art_cell::Reads;
-use art_find::{Position, ReadSet, Rereading, look};
+use art_find::{Above, Position, ReadSet, Rereading, look};
 use art_machine::{Action, Answer};
+use art_node::read_header;
 use art_plan::Lower;
 use art_step::{EpochSteps, Stamp, Steps};
 
@@ -85,10 +87,14 @@ pub enum Validated {
 /// Where a validation stands between two of its steps.
 #[derive(Clone, Copy)]
 pub enum Validate {
-    /// The words of this cell that are missing are read.
+    /// The words of this cell that are missing are read. Of the node below the header is known.
     Read { role: Role, rereading: Rereading },
+    /// The header of the node below is read, which tells whether its other words are.
+    Header { rereading: Rereading },
     /// This cell is to be checked.
     Check { role: Role },
+    /// By its header the path of the node below is longer than any in a tree, which its check is about to tell.
+    Torn,
     Ended(Validated),
 }
 
@@ -148,7 +154,12 @@ impl Validate {
             Validate::Read { role, rereading } => read_told(
                 role, rereading, position, cells, read_set, lower, answer,
             ),
+            Validate::Header { rereading } => header_told(
+                rereading, position, cells, read_set, lower, answer,
+            ),
             Validate::Check { role } => checked(answer, next_check(cells, role)),
+            // no tree has such a node, so its check has failed
+            Validate::Torn => Validate::Ended(Validated::Changed),
             Validate::Ended(validated) => Validate::Ended(validated),
         };
     }
@@ -210,8 +221,12 @@ impl Validate {
     {
         match *self {
             Validate::Read { role, rereading } => rereading.next(cells.stamp(position, role)?),
+            Validate::Header { rereading } => rereading.next(cells.stamp(position, Role::Lower)?),
             Validate::Check { role } => Some(Action::Check {
                 stamp: cells.stamp(position, role)?,
+            }),
+            Validate::Torn => Some(Action::Check {
+                stamp: cells.stamp(position, Role::Lower)?,
             }),
             Validate::Ended(_) => None,
         }
@@ -279,11 +294,33 @@ fn from_lower(position: &Position, cells: &Cells, read_set: &ReadSet, lower: &Re
         HasLeft u v 268 798 → Fits z k position.now cells.now result read_set.now lower.now u v }
 {
     match unread(Role::Lower, position, cells, read_set, lower) {
-        Some(rereading) => Validate::Read {
-            role: Role::Lower,
-            rereading,
-        },
+        Some(rereading) => from_header(rereading, position, read_set, lower),
         None => first_check(position, cells),
+    }
+}
+
+/// Words of the node below are missing: its header is read first, and tells whether the others are.
+fn from_header(
+    rereading: Rereading,
+    position: &Position,
+    read_set: &ReadSet,
+    lower: &Reads,
+) -> Validate
+    requires { 0 < rereading.place }
+    ensures going { ended_at result ≡ None }
+    ensures few { steps_left result ≤ 268 }
+    ensures fits { (z : Sizes) (k : List ℕ) (o : CellsOf) (u v : View) → Knows z k position.now o read_set.now lower.now u v →
+        Until (KnowsWords position.now o read_set.now lower.now) under →
+        IsRereading z position.now o read_set.now lower.now v under rereading →
+        HasLeft u v 268 798 → Fits z k position.now o result read_set.now lower.now u v }
+{
+    match lower.get(1) {
+        None => Validate::Header { rereading },
+        Some(_) => {
+            let role = Role::Lower;
+            let next = Validate::Read { role, rereading };
+            after_header(position, read_set, lower, next)
+        }
     }
 }
 
@@ -323,7 +360,7 @@ fn read_on(
     ensures few { steps_left result ≤ 266 - rereading.place + left_after role }
     ensures fits { (z : Sizes) (k : List ℕ) (u v : View) → Knows z k position.now cells.now read_set.now lower.now u v →
         Until (KnowsWords position.now cells.now read_set.now lower.now) role → stamp_of position.now cells.now role ≡ Some stamp →
-        RereadingFits z v stamp rereading (reads_of read_set.now lower.now role) →
+        RereadingFits z v stamp rereading (reads_of read_set.now lower.now role) → MayRead position.now read_set.now lower.now role →
         HasLeft u v (266 - rereading.place + left_after role) 798 → Fits z k position.now cells.now result read_set.now lower.now u v }
 {
     match rereading.next(stamp) {
@@ -338,7 +375,7 @@ fn note(role: Role, rereading: &mut Rereading, read_set: &mut ReadSet, lower: &m
     ensures further { rereading.old.place < rereading.new.place }
     ensures others { OthersStay role read_set.old lower.old read_set.new lower.new }
     ensures stays { word_read (reads_of read_set.old lower.old role) rereading.old.place ≡ None →
-        StaysRead (node_of read_set.old) (node_of read_set.new) }
+        StaysRead (node_of read_set.old) (node_of read_set.new) × StaysRead lower.old lower.new }
     ensures fits { (z : Sizes) (v w : View) (x : StampOf) → RereadingFits z v x rereading.old (reads_of read_set.old lower.old role) →
         rereading.old.place < size_of x.cell → ReadOutcome z v w x rereading.old.place word →
         RereadingFits z w x rereading.new (reads_of read_set.new lower.new role) }
@@ -375,6 +412,78 @@ fn read_told(
     let mut rereading = rereading;
     note(role, &mut rereading, read_set, lower, answer.found());
     read_on(role, rereading, stamp, position, cells, read_set, lower)
+}
+
+/// The header of the node below was read: its other words come next, unless it tells a path that is too long.
+fn header_told(
+    rereading: Rereading,
+    position: &Position,
+    cells: &Cells,
+    read_set: &ReadSet,
+    lower: &mut Reads,
+    answer: Answer,
+) -> Validate
+    requires { (z : Sizes) × (k : List ℕ) × (u : View) × (v : View) ×
+        Fits z k position.now cells.now (heading rereading) read_set.now lower.old u v }
+    ensures left { steps_left result < steps_left (heading rereading) }
+    ensures fits { (z : Sizes) (k : List ℕ) (deed : Deed) (u v w : View) (asked : ActionOf) →
+        Fits z k position.now cells.now (heading rereading) read_set.now lower.old u v →
+        asks position.now cells.now (heading rereading) ≡ Some asked → Answers z (telling deed) asked answer v w →
+        Fits z k position.now cells.now result read_set.now lower.new u w }
+{
+    let Some(stamp) = cells.stamp(position, Role::Lower) else {
+        unreachable!();
+    };
+    let mut rereading = rereading;
+    rereading.told(lower, answer.found());
+    let others = read_on(
+        Role::Lower,
+        rereading,
+        stamp,
+        position,
+        cells,
+        read_set,
+        lower,
+    );
+    after_header(position, read_set, lower, others)
+}
+
+/// The header of the node below is known: this stage is next, or the check of that node where its path is too long.
+fn after_header(position: &Position, read_set: &ReadSet, lower: &Reads, next: Validate) -> Validate
+    ensures { result ≡ after_header (path_below position.now read_set.now lower.now) next }
+{
+    if is_long(position, read_set, lower) {
+        Validate::Torn
+    } else {
+        next
+    }
+}
+
+/// Whether the path of the node below has more than 63 bytes with its prefix, by the headers that were read.
+fn is_long(position: &Position, read_set: &ReadSet, lower: &Reads) -> bool
+    ensures { result ≡ nat_lt 63 (path_below position.now read_set.now lower.now) }
+{
+    let upper = prefix_length(read_set.node());
+    // 64 bytes are too many already, so the sum stays small
+    depth_under(position.above).min(64) + upper + 1 + prefix_length(lower) > 63
+}
+
+/// How many bytes lead to what the cell above names, or none.
+fn depth_under(above: Option<Above>) -> usize
+    ensures { result ≡ depth_under above }
+{
+    match above {
+        Some(above) => above.depth,
+        None => 0,
+    }
+}
+
+/// How many bytes the prefix of a node has, by its header, or none where that was not read.
+fn prefix_length(reads: &Reads) -> usize
+    ensures is { result ≡ prefix_in reads.now }
+    ensures few { result < 128 }
+{
+    read_header(reads.get(1).unwrap_or(0)).prefix_length
 }
 
 /// Reads the words of the cell in this role that are missing, as long as more than one turn is left.

@@ -26,6 +26,7 @@ use Rattle.art_call.specs.ArtAttempt.Validate.{checks_of, reads_by}
 use Rattle.art_call.specs.ArtAttempt.declared.naming.Naming.{Naming}
 use Rattle.art_call.specs.ArtAttempt.declared.naming.Naming.TheVariants as names
 use Rattle.art_call.specs.ArtAttempt.declared.validate.Cells.{Cells as CellsOf}
+use Rattle.art_call.specs.ArtAttempt.declared.validate.Role.TheVariants.{Lower}
 use Rattle.art_call.specs.ArtAttempt.declared.validate.Validate.{Validate}
 use Rattle.art_call.specs.ArtAttempt.declared.validate.Validate.TheVariants as checks
 use Rattle.art_key.specs.declared.bounds.Bound.{Bound}
@@ -107,7 +108,9 @@ stamp_checks_only None = λ c is. cc
 
 pub validate_begins_none : (t : Position) (o : CellsOf) (s : Validate) → BeginsNone (validate.asks t o s)
 validate_begins_none t o (checks.Read role r) = stamp_reads_only r (validate.stamp_of t o role)
+validate_begins_none t o (checks.Header r) = stamp_reads_only r (validate.stamp_of t o Lower)
 validate_begins_none t o (checks.Check role) = stamp_checks_only (validate.stamp_of t o role)
+validate_begins_none t o checks.Torn = stamp_checks_only (validate.stamp_of t o Lower)
 validate_begins_none t o (checks.Ended e) = λ c is. cc
 
 -- ---- the lower node

@@ -4,6 +4,10 @@ use Rattle.art_attempt.specs.Validate.{Fits, KnowsWords}
 use Rattle.art_attempt.specs.declared.validate.Validate.{Validate}
 use Rattle.art_attempt.proofs.validate.from_lower.Goals as goal
 
+pub returns-in-Some-clause-fits : goal.returns-in-Some-clause-fits
+returns-in-Some-clause-fits c z k u v knows above here left =
+    c.from_header.ensures.fits z k c.args.cells.now u v knows (above, here) (c.in-Some.ensures.fits z k u v knows) left
+
 pub returns-in-None-clause-fits : goal.returns-in-None-clause-fits
 returns-in-None-clause-fits c z k u v knows above here left =
     let t = c.args.position.now in

@@ -1,6 +1,7 @@
 -- Words of one cell were read, and noted.
 use Rattle.std.proofs.Common.{◌≡◌, ◌∙◌, ◌+◌, ◌-◌, ◌<◌, ◌≤◌, sym, subst, arith, ⊎_elim}
 use Rattle.art_find.specs.Rereadings.{RereadingFits}
+use Rattle.art_attempt.proofs.LongPaths.{lower_stays, may_read_on}
 use Rattle.art_attempt.proofs.Validates.{inside, knows_read, left_after_reads, node_run, not_all_known, same_stamp, until_read}
 use Rattle.art_attempt.specs.Validate.{left_after, reads_of}
 use Rattle.art_step.specs.Views.{size_of}
@@ -82,4 +83,5 @@ returns-clause-fits g c k u fits =
     (knows_read z k t o read_set read_set' lower lower' u v w n done.only fits.stage.0 role c.in-Some.stamp is_stamp c.read_all.ensures.others done.fits.kept (not_all_known z t o read_set lower v role r reading))
     (until_read z k t o read_set read_set' lower lower' u v w n done.only fits.stage.0 role c.read_all.ensures.others fits.stage.1)
     is_stamp done.fits
+    (may_read_on t role read_set read_set' lower lower' c.read_all.ensures.others (lower_stays role read_set read_set' lower lower' c.read_all.ensures.others done.stays) fits.stage.3)
     (left_after_reads u v w n (266 - r.place + left_after role) (266 - r'.place + left_after role) 798 done.only (omega (arith, further, few)) (record { failures = fits.failures; steps = fits.steps }))

@@ -2,6 +2,7 @@
 use Rattle.std.proofs.Common.{◌≡◌, ◌∙◌, ◌+◌, ◌-◌, ℕ, sym, subst, arith}
 use Rattle.art_find.proofs.Runs.{one_read}
 use Rattle.art_find.specs.Rereadings.{RereadingFits}
+use Rattle.art_attempt.proofs.LongPaths.{may_read_on}
 use Rattle.art_attempt.proofs.Validates.{inside, knows_read, left_after_reads, node_stays, not_all_known, not_known, read_row, same_stamp, until_read}
 use Rattle.art_attempt.specs.Validate.{left_after, reads_of}
 use Rattle.art_step.specs.Steps.Read.{Outcome as ReadOutcome}
@@ -32,7 +33,7 @@ returns-clause-node c =
     let lower = c.args.lower.now in
     let reading = q.4.stage.2 in
     node_stays t o role read_set c.note.new.read_set lower c.note.new.lower c.note.ensures.others
-    (c.note.ensures.stays (not_known q.0 q.3 reading.stamp c.args.rereading (reads_of read_set lower role) reading.fits reading.more))
+    (c.note.ensures.stays (not_known q.0 q.3 reading.stamp c.args.rereading (reads_of read_set lower role) reading.fits reading.more)).0
     (λ here known. absurd (not_all_known q.0 t o read_set lower q.3 role c.args.rereading reading here known))
 
 pub returns-clause-fits : goal.returns-clause-fits
@@ -60,4 +61,5 @@ returns-clause-fits c z k deed u v w asked fits is row =
     (until_read z k t o read_set read_set' lower lower' u v w 1 only fits.stage.0 role c.note.ensures.others fits.stage.1)
     is_stamp
     (subst (λ (y : Stamp). RereadingFits z w y c.note.new.rereading (reads_of read_set' lower' role)) same now)
+    (may_read_on t role read_set read_set' lower lower' c.note.ensures.others (c.note.ensures.stays (not_known z v x c.args.rereading (reads_of read_set lower role) reading.fits reading.more)).1 fits.stage.3)
     (left_after_reads u v w 1 (266 - i + left_after role) (266 - c.note.new.rereading.place + left_after role) 798 only (omega (arith, further, room)) (record { failures = fits.failures; steps = fits.steps }))
