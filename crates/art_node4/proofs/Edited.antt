@@ -20,7 +20,7 @@ use Rattle.art_node4.specs.declared.edits.Edit.{Edit}
 use Rattle.art_node4.specs.declared.edits.Edit.TheVariants.{Add, Remove}
 use Rattle.art_node4.specs.declared.layouts.Sorted.{Sorted}
 use Rattle.art_node4.specs.declared.layouts.Sorted.TheVariants.{Four, Sixteen}
-use Rattle.art_node4.specs.Edits.{CanEdit, Fit, changed, changes_to, edit_position, edited, key_word, rewritten}
+use Rattle.art_node4.specs.Edits.{CanEdit, Fit, changed, changes_to, edit_position, edited, key_word, most_used, rewritten}
 use Rattle.art_node4.specs.Sorted.{Holds, entry_or_none, layout_of, no_entry}
 use Rattle.art_node4.proofs.NodeWords.{entry_unused, entry_used, fits, form_is, holds_body}
 
@@ -214,6 +214,29 @@ module _ (s : Sorted) (w : Words) (edit : Edit) (body : IsBody (layout_of s) w) 
       ∙ (holds_body s w body).children i (omega arith)
       ∙ sym (ap (λ (e : Entry). e.child) (same_before (layout_of s) (entries (layout_of s) w) edit i can (omega arith)))
       ∙ sym (at_children s w then_children p low (omega (arith, (fits s).last)))
+
+  -- children behind the last position that is in use before the edit or after it
+  pub unused_stays : (p : ℕ) → first_child (layout_of s) + most_used edit (count_of w) ≤ p → p < size (layout_of s) → w p ≡ rewritten (layout_of s) w then_children p
+  unused_stays p past within =
+      let i = p - first_child (layout_of s) in
+      let none = behind edit can i (omega (arith, past)) in
+      ap w (omega (arith, past))
+      ∙ (holds_body s w body).children i (omega (arith, (fits s).last, past, within))
+      ∙ ap (λ (e : Entry). e.child) (entry_unused s w i body none.0)
+      ∙ sym (ap (λ (e : Entry). e.child) (get_or_past then_children i no_entry none.1))
+      ∙ sym (at_children s w then_children p (omega (arith, past)) within)
+    where
+      -- no child stands there, before or after
+      behind : (e : Edit) → CanEdit (layout_of s) e (entries (layout_of s) w) → (i : ℕ) → most_used e (count_of w) ≤ i
+          → (count_of w ≤ i) × (length (edited e (entries (layout_of s) w)) ≤ i)
+      behind (Add position entry) able i low = (omega (arith, low), omega (arith, low, length-insert (entries (layout_of s) w) position entry able.0, body.counted))
+      behind (Remove position) able i low = (low, omega (arith, low, length-remove (entries (layout_of s) w) position able.0, body.counted))
+
+-- the position of the edit is one of those, and they are positions of the node
+pub used_within : (s : Sorted) (w : Words) (edit : Edit) → IsBody (layout_of s) w → CanEdit (layout_of s) edit (entries (layout_of s) w)
+    → (edit_position edit < most_used edit (count_of w)) × (most_used edit (count_of w) ≤ places (layout_of s))
+used_within s w (Add position entry) body can = (omega (arith, can.0, body.counted), omega (arith, can.1, body.counted))
+used_within s w (Remove position) body can = (omega (arith, can.0, body.counted), omega (arith, can.1, body.counted))
 
 -- ---- words that differ, up to a place
 

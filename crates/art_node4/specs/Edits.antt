@@ -27,6 +27,11 @@ pub record Fit (e : Entry) : Type 0 where
   pub byte : e.byte < 2 ^ 8
   pub child : e.child < 2 ^ 64
 
+-- how many positions are in use before it or after it, where so many are before it
+abbrev pub most_used : Edit → ℕ → ℕ
+most_used (Add position entry) count = count + 1
+most_used (Remove position) count = count
+
 -- there is room for one that is added, and one that is removed is there
 abbrev pub CanEdit : Layout → Edit → List Entry → Type 0
 CanEdit k (Add position entry) xs = (position ≤ length xs) × (length xs < places k) × Fit entry

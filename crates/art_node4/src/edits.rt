@@ -2,7 +2,7 @@
 ghost use Rattle.std.specs.Prelude.{◌≡◌, ◌≤◌, ◌<◌, ◌+◌, ◌-◌, ◌*◌, ◌/◌};
 ghost use Rattle.art_cell.specs.Words.{first_child, size};
 ghost use Rattle.art_cell.specs.Reads.{word_of};
-ghost use Rattle.art_node4.specs.Edits.{IsEdit, children_after, edit_position, key_word, words_after};
+ghost use Rattle.art_node4.specs.Edits.{IsEdit, children_after, edit_position, key_word, most_used, words_after};
 ghost use Rattle.art_node4.specs.Sorted.{entry_or_none, layout_of};
 
 use crate::Sorted;
@@ -28,6 +28,18 @@ impl Edit {
     {
         match self {
             Edit::Add { at, .. } | Edit::Remove(at) => at,
+        }
+    }
+
+    /// How many positions are in use before it or after it, where so many are before it.
+    #[inline(always)]
+    pub(crate) fn most_used(self, count: usize) -> usize
+        requires { count < 512 }
+        ensures { result ≡ most_used self count }
+    {
+        match self {
+            Edit::Add { .. } => count + 1,
+            Edit::Remove(_) => count,
         }
     }
 }

@@ -75,7 +75,8 @@ fn plan(sorted: Sorted, body: &Body, edit: Edit, writes: &mut Writes)
     let first_child = sorted.first_child();
     let keys = FIRST_KEYS + edit.position() / 8;
     let children = first_child + edit.position();
-    let end = first_child + sorted.positions();
+    // no position is in use behind these, before the edit or after it
+    let end = first_child + edit.most_used(count(body));
     writes.clear();
     push_changed(body, HEADER, header_after(sorted, body, edit), writes);
     push_all(sorted, body, edit, keys, first_child, writes);
