@@ -1,8 +1,8 @@
 pub mod Closing
 pub mod Ended
+pub mod FirstPlaces
 pub mod Laws
 pub mod Marks
-pub mod NodePlaces
 pub mod Opening
 pub mod Passes
 pub mod Rule

@@ -54,6 +54,7 @@ impl Shared {
             table,
             basis,
             first_nodes: _,
+            first_free_words: _,
             epoch_at: _,
         } = self;
         Ended {

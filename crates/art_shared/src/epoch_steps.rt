@@ -17,7 +17,7 @@ impl EpochSteps for Stepper<'_> {
     }
 
     fn bits_clear(&mut self, pool: Pool, index: u32, bit: Option<u32>) -> u64 {
-        let first = self.shared.basis.sizes.first_free_word(pool);
+        let first = self.shared.first_free_word(pool);
         let at = word_at(self.shared.basis.sizes, first, index as usize);
         match bit {
             None => self
@@ -35,7 +35,7 @@ impl EpochSteps for Stepper<'_> {
     }
 
     fn bits_set(&mut self, number: Number) {
-        let first = self.shared.basis.sizes.first_free_word(number.pool());
+        let first = self.shared.first_free_word(number.pool());
         let index = number.number() as usize / 64;
         let bit = 1 << (number.number() % 64);
         let at = word_at(self.shared.basis.sizes, first, index);

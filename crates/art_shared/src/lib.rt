@@ -95,12 +95,12 @@
 mod closing;
 mod ended;
 mod epoch_steps;
+mod first_places;
 mod law;
 mod laws;
 mod lending;
 mod mark;
 mod marks;
-mod node_places;
 mod opening;
 mod pass;
 mod shared;

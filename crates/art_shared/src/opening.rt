@@ -3,8 +3,8 @@ ghost use Rattle.std.specs.Prelude.{◌≡◌, ◌≤◌, IfOk};
 ghost use Rattle.art_shared.specs.Opening.{OpensWith};
 ghost use Rattle.art_step.specs.Views.{last_counter};
 
+use crate::first_places::{first_free_words, first_nodes};
 use crate::law::{Basis, Known, Law};
-use crate::node_places::first_nodes;
 use crate::pass::Pass;
 use crate::shared::Shared;
 use art_key::Schema;
@@ -59,6 +59,7 @@ impl Shared {
             table,
             basis,
             first_nodes: first_nodes(sizes),
+            first_free_words: first_free_words(sizes),
             epoch_at: sizes.epoch_place(),
         };
         Ok((shared, passes))

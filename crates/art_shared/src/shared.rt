@@ -1,11 +1,11 @@
 //! The table of all words, which threads share.
 ghost use Rattle.std.specs.Prelude.{◌≡◌, ◌<◌};
-ghost use Rattle.art_step.specs.WordPlaces.{epoch_place, pass_place, place_of, word_count};
-ghost use Rattle.art_shared.specs.NodePlaces.{first_nodes as first_nodes_of};
+ghost use Rattle.art_step.specs.WordPlaces.{epoch_place, first_free_word, pass_place, place_of, word_count};
+ghost use Rattle.art_shared.specs.FirstPlaces.{first_free_words as first_free_words_of, first_nodes as first_nodes_of};
 
+use crate::first_places::{index_of, node_place, order_of};
 use crate::law::{Basis, Known, Law};
-use crate::node_places::{node_place, order_of};
-use art_cell::Cell;
+use art_cell::{Cell, Pool};
 use art_key::Schema;
 use art_step::Sizes;
 use atomic_table::Table;
@@ -21,12 +21,15 @@ pub struct Shared {
     pub(crate) basis: Basis,
     /// The place of the first word of each layout's first node, which the sizes determine: steps find their words by it.
     pub(crate) first_nodes: [usize; 4],
+    /// The place of the first word of each pool's free numbers, which they determine too.
+    pub(crate) first_free_words: [usize; 5],
     /// The place of the epoch, which they determine too.
     pub(crate) epoch_at: usize,
     ghost key: { table.shared.key ≡ basis },
     ghost wide: { table.shared.table_id.words ≡ word_count basis.sizes },
     ghost plain: { table.shared.table_id.slots ≡ 0 },
     ghost nodes: { first_nodes ≡ first_nodes_of basis.sizes },
+    ghost free: { first_free_words ≡ first_free_words_of basis.sizes },
     ghost epoch: { epoch_at ≡ epoch_place basis.sizes },
 }
 
@@ -55,6 +58,14 @@ impl Shared {
             Cell::Node(node) => node_place(sizes, self.first_nodes[order_of(node.layout)], node),
             Cell::Anchor | Cell::Leaf(_) => sizes.place_of(cell),
         }
+    }
+
+    /// The place of the first word of the pool's free numbers.
+    #[inline(always)]
+    pub(crate) fn first_free_word(&self, pool: Pool) -> usize
+        ensures { result ≡ first_free_word self.now.basis.sizes pool }
+    {
+        self.first_free_words[index_of(pool)]
     }
 
     /// The place of the epoch.

@@ -60,4 +60,4 @@ loop-number-preserved c =
 pub invariant_of-shared : goal.invariant_of-shared
 invariant_of-shared c =
     let t = c.in_ok-table.ensures in
-    record { key = t.5; wide = t.0 ∙ (opened (of c.args.sizes.now c.args.schema c.args.counter_start) c.as_slice.result.now c.requires (search rules)).long; plain = t.1; nodes = c.first_nodes.ensures; epoch = c.epoch_place.ensures }
+    record { key = t.5; wide = t.0 ∙ (opened (of c.args.sizes.now c.args.schema c.args.counter_start) c.as_slice.result.now c.requires (search rules)).long; plain = t.1; nodes = c.first_nodes.ensures; free = c.first_free_words.ensures; epoch = c.epoch_place.ensures }

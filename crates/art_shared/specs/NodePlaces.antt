@@ -1,9 +1,0 @@
--- Where the nodes of each layout begin.
-use Rattle.std.specs.Prelude.{ℕ, List, [], ◌∷◌}
-use Rattle.art_cell.specs.declared.layouts.Pool.TheVariants.{N4, N16, N48, N256}
-use Rattle.art_step.specs.declared.views.Sizes.{Sizes}
-use Rattle.art_step.specs.WordPlaces.{first_cell}
-
--- the place of the first word of each layout's first node, from the smallest layout to the largest
-abbrev pub first_nodes : Sizes → List ℕ
-first_nodes z = first_cell z N4 ∷ first_cell z N16 ∷ first_cell z N48 ∷ first_cell z N256 ∷ []
