@@ -117,11 +117,17 @@ AreIn s (d ∷ ds) = IsIn s d × AreIn (without d s) ds
 abbrev pub node_link : Stock → Layout → Option Link
 node_link s layout = option_map (λ (i : ℕ). node (record { layout = layout; number = i })) (node_in s layout)
 
+-- that of the one layout, or else of the other
+abbrev pub first_node : Stock → Layout → Layout → Option Link
+first_node s one other = option_or (node_link s one) (node_link s other)
+
+-- the leaf, or else the first of the small nodes
+abbrev pub first_low : Stock → Option Link
+first_low s = option_or (option_map leaf s.leaf) (first_node s Node4 Node16)
+
 -- the first: the leaf, and then the nodes from the smallest layout on
 abbrev pub first_in : Stock → Option Link
-first_in s =
-    option_or (option_or (option_map leaf s.leaf) (option_or (node_link s Node4) (node_link s Node16)))
-    (option_or (node_link s Node48) (node_link s Node256))
+first_in s = option_or (first_low s) (first_node s Node48 Node256)
 
 abbrev pub one_of : Option ℕ → ℕ
 one_of None = 0

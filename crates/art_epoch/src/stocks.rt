@@ -31,7 +31,7 @@ pub struct Stock {
 }
 
 impl Stock {
-    ghost use Rattle.art_epoch.specs.Stocks.{first_in, hint_in, hinted_at, node_in, node_link, without, without_leaf, without_node};
+    ghost use Rattle.art_epoch.specs.Stocks.{first_in, first_low, first_node, hint_in, hinted_at, node_in, node_link, without, without_leaf, without_node};
 
     /// Of the pass `own`, with nothing in hand: the first searches of the passes are spread over the words of a pool.
     pub fn new(own: u32, sizes: &Sizes) -> Stock
@@ -158,10 +158,30 @@ impl Stock {
     pub(crate) fn first(&self) -> Option<Link>
         ensures { result ≡ first_in self.now }
     {
-        let leaf = self.leaf.map(Link::Leaf);
-        let small = self.link(Layout::Node4).or(self.link(Layout::Node16));
-        let large = self.link(Layout::Node48).or(self.link(Layout::Node256));
-        leaf.or(small).or(large)
+        match self.first_low() {
+            Some(link) => Some(link),
+            None => self.first_node(Layout::Node48, Layout::Node256),
+        }
+    }
+
+    /// The leaf, or else the first of the small nodes.
+    fn first_low(&self) -> Option<Link>
+        ensures { result ≡ first_low self.now }
+    {
+        match self.leaf {
+            Some(leaf) => Some(Link::Leaf(leaf)),
+            None => self.first_node(Layout::Node4, Layout::Node16),
+        }
+    }
+
+    /// The node of the one layout, or else of the other.
+    fn first_node(&self, one: Layout, other: Layout) -> Option<Link>
+        ensures { result ≡ first_node self.now one other }
+    {
+        match self.link(one) {
+            Some(link) => Some(link),
+            None => self.link(other),
+        }
     }
 
     /// The node of the layout.
