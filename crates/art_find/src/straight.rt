@@ -598,6 +598,9 @@ fn compare_key<S: Steps>(
         beside = beside_word(key, seen.count, number, word, beside);
         number += 1;
     }
+    tally.left -= 1;
+    let word = steps.read_leaf(seen.stamp, seen.leaf, 2 + usize::from(number));
+    // after the read: what was put in memory before one is read anew behind it
     *descent = Descent {
         depth,
         stage: Stage::Bytes {
@@ -606,8 +609,6 @@ fn compare_key<S: Steps>(
             before: beside,
         },
     };
-    tally.left -= 1;
-    let word = steps.read_leaf(seen.stamp, seen.leaf, 2 + usize::from(number));
     descent.read(key, word);
 }
 
