@@ -24,6 +24,7 @@ pub mod Names
 pub mod Numbers
 pub mod Overlaps
 pub mod OneStep
+mod Phases
 mod Rereads
 mod RereadsGoOn
 mod Spending

@@ -149,7 +149,7 @@ impl Attempt {
         }
     }
 
-    /// Makes the steps of the stage where it stands, but for one that tells its event before a change is made.
+    /// Makes its steps, stage after stage, but for one that tells its event before a change is made.
     pub fn hurry<S: EpochSteps>(&mut self, steps: &mut S, room: &mut Room, left: &mut u32)
         requires turn { is_free self.old ≡ true → 0 < left.old }
         requires admitted { S.admits steps.old room.old.row.key.items }
@@ -169,14 +169,11 @@ impl Attempt {
         if *left == 0 {
             return;
         }
-        match self.stage {
-            Stage::Finding(_) => {
-                self.find_all(steps, room, left);
-                self.settle_on(steps, room, left);
-            }
-            Stage::Placed { .. } => self.part_all(steps, room, left),
-            Stage::Apply(apply) => self.make_all(steps, room, apply, left),
-            Stage::Ended(_) => {}
+        if self.is_free() {
+            self.prepare(steps, room, left);
+        }
+        if let Stage::Apply(apply) = self.stage {
+            self.make_all(steps, room, apply, left);
         }
     }
 

@@ -1,12 +1,12 @@
 //! What an attempt does where its key stands, part by part, before a change is made.
 ghost use Rattle.std.specs.Prelude.{◌≡◌, ◌≢◌, ◌<◌, ◌≤◌, length, Some, true, false};
+ghost use Rattle.art_attempt.specs.Parts.{Prepares};
 ghost use Rattle.art_attempt.specs.Attempts.{Fits, IsSameTry, PartFits, StandsAt, asks, deed_at, ended_at, is_free, part_asks};
 ghost use Rattle.art_attempt.specs.declared.attempts.Ending.TheVariants.{Restart as anew, Overlaps as overlaps};
 ghost use Rattle.art_attempt.specs.declared.attempts.Part.{Part as PartOf};
 ghost use Rattle.art_attempt.specs.declared.attempts.Stage.TheVariants as stages;
 ghost use Rattle.art_find.specs.declared.findings.Position.{Position as PositionOf};
 ghost use Rattle.art_machine.specs.Acting.{goes_on};
-ghost use Rattle.art_machine.specs.Turns.{Spends};
 ghost use Rattle.art_machine.specs.declared.actions.Action.{Action as ActionOf};
 ghost use Rattle.art_step.specs.declared.views.Sizes.{Sizes};
 ghost use Rattle.art_step.specs.declared.views.View.{View};
@@ -64,29 +64,26 @@ impl Attempt {
         }
     }
 
-    /// Makes the steps of the part, as long as more than one turn is left.
-    pub(crate) fn part_all<S: EpochSteps>(&mut self, steps: &mut S, room: &mut Room, left: &mut u32)
-        requires stage { (t : PositionOf) × (p : PartOf) × (self.old.stage ≡ stages.Placed t p) }
+    /// Makes the steps that come before a change, as long as more than one turn is left: each part goes on where the one before it ended.
+    #[inline(always)]
+    pub(crate) fn prepare<S: EpochSteps>(&mut self, steps: &mut S, room: &mut Room, left: &mut u32)
+        requires free { is_free self.old ≡ true }
+        requires not_overlaps { ended_at self.old ≢ Some overlaps }
         requires short { length room.old.row.key.items ≤ 64 }
         requires turn { 0 < left.old }
         requires fits { (u : View) × Fits (S.sizes steps.old) u self.old room.old (S.view steps.old) }
         ensures only { S.only steps.old steps.new }
-        ensures kept { IsSameTry self.old self.new room.old room.new }
         ensures free { is_free self.new ≡ true }
         ensures not_overlaps { ended_at self.new ≢ Some overlaps }
-        ensures turns { Spends (S.view steps.old) (S.view steps.new) left.old left.new }
-        ensures fits { (u : View) → Fits (S.sizes steps.old) u self.old room.old (S.view steps.old) →
-            Fits (S.sizes steps.old) u self.new room.new (S.view steps.new) }
+        ensures prepared { Prepares (S.sizes steps.old) self.old room.old left.old (S.view steps.old)
+            self.new room.new left.new (S.view steps.new) }
     {
-        let Stage::Placed { part, .. } = &self.stage else {
-            unreachable!()
-        };
-        match part {
-            Part::Reserve { .. } => self.supply_all(steps, room, left),
-            Part::Reading(_) => self.read_all(steps, room, left),
-            Part::Naming { .. } => self.name_all(steps, room, left),
-            Part::Validate { .. } => self.validate_all(steps, room, left),
-        }
+        self.find_all(steps, room, left);
+        self.settle_on(steps, room, left);
+        self.read_all(steps, room, left);
+        self.name_all(steps, room, left);
+        self.supply_all(steps, room, left);
+        self.validate_all(steps, room, left);
     }
 
     /// It goes on where the key stands, with this part: a place where it stands already is not moved again.

@@ -81,6 +81,7 @@ impl Attempt {
     }
 
     /// Makes steps until the place of the key is known, or its way was changed, as long as more than one turn is left.
+    #[inline(always)]
     pub(crate) fn find_all<S: EpochSteps>(&mut self, steps: &mut S, room: &mut Room, left: &mut u32)
         requires turn { 0 < left.old }
         requires fits { (u : View) × Fits (S.sizes steps.old) u self.old room.old (S.view steps.old) }

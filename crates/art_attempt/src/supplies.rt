@@ -1,5 +1,5 @@
 //! How an attempt brings numbers into the hand, and validates the cells that it writes.
-ghost use Rattle.std.specs.Prelude.{◌≡◌, ◌≢◌, ◌<◌, ◌≤◌, length, None, Some, true, false};
+ghost use Rattle.std.specs.Prelude.{◌≡◌, ◌≢◌, ◌+◌, ◌<◌, ◌≤◌, length, None, Some, true, false};
 ghost use Rattle.art_attempt.specs.Attempts.{EndsWithin, Fits, HasSupplies, IsKnown, IsRoom, IsSameTry, IsValidating, StandsAt};
 ghost use Rattle.art_attempt.specs.Attempts.{WantsNumbers, asks, deed_at, ended_at, is_free, supply_asks, validate_asks};
 ghost use Rattle.art_attempt.specs.Cases.{IsCaseOf, cells_of};
@@ -18,7 +18,6 @@ ghost use Rattle.art_attempt.specs.declared.validate.Validate.{Validate as Valid
 ghost use Rattle.art_attempt.specs.declared.validate.Validate.TheVariants.{Ended as validate_ended};
 ghost use Rattle.art_attempt.specs.declared.validate.Validated.TheVariants.{Changed as changed_cell};
 ghost use Rattle.art_machine.specs.Acting.{Answers as ActionAnswers, goes_on, telling};
-ghost use Rattle.art_machine.specs.Turns.{Spends};
 ghost use Rattle.art_machine.specs.declared.actions.Action.{Action as ActionOf};
 ghost use Rattle.art_step.specs.declared.views.Sizes.{Sizes};
 ghost use Rattle.art_step.specs.declared.views.View.{View};
@@ -96,13 +95,15 @@ impl Attempt {
     }
 
     /// Brings numbers into the hand, as long as more than one turn is left.
+    #[inline(always)]
     pub(crate) fn supply_all<S: EpochSteps>(
         &mut self,
         steps: &mut S,
         room: &mut Room,
         left: &mut u32,
     )
-        requires stage { (t : PositionOf) × (c : CaseOf) × (s : ReserveOf) × (self.old.stage ≡ stages.Placed t (parts.Reserve c s)) }
+        requires free { is_free self.old ≡ true }
+        requires not_overlaps { ended_at self.old ≢ Some overlaps }
         requires short { length room.old.row.key.items ≤ 64 }
         requires turn { 0 < left.old }
         requires fits { (u : View) × Fits (S.sizes steps.old) u self.old room.old (S.view steps.old) }
@@ -110,15 +111,17 @@ impl Attempt {
         ensures kept { IsSameTry self.old self.new room.old room.new }
         ensures free { is_free self.new ≡ true }
         ensures not_overlaps { ended_at self.new ≢ Some overlaps }
-        ensures turns { Spends (S.view steps.old) (S.view steps.new) left.old left.new }
+        ensures turn { 0 < left.new }
+        ensures less { left.new ≤ left.old }
+        ensures made { (S.view steps.new).steps + left.new ≡ (S.view steps.old).steps + left.old }
         ensures fits { (u : View) → Fits (S.sizes steps.old) u self.old room.old (S.view steps.old) →
             Fits (S.sizes steps.old) u self.new room.new (S.view steps.new) }
     {
         let Stage::Placed { position, part } = &mut self.stage else {
-            unreachable!()
+            return;
         };
         let Part::Reserve { case, reserve } = part else {
-            unreachable!()
+            return;
         };
         let demand = case.demand(room.sizes, &position.verdict);
         let key = room.row.key.as_slice();
@@ -250,28 +253,32 @@ impl Attempt {
     }
 
     /// Reads and checks the cells, as long as more than one turn is left.
+    #[inline(always)]
     pub(crate) fn validate_all<S: EpochSteps>(
         &mut self,
         steps: &mut S,
         room: &mut Room,
         left: &mut u32,
     )
-        requires stage { (t : PositionOf) × (c : CaseOf) × (s : ValidateOf) × (self.old.stage ≡ stages.Placed t (parts.Validate c s)) }
+        requires free { is_free self.old ≡ true }
+        requires not_overlaps { ended_at self.old ≢ Some overlaps }
         requires turn { 0 < left.old }
         requires fits { (u : View) × Fits (S.sizes steps.old) u self.old room.old (S.view steps.old) }
         ensures only { S.only steps.old steps.new }
         ensures kept { IsSameTry self.old self.new room.old room.new }
         ensures free { is_free self.new ≡ true }
         ensures not_overlaps { ended_at self.new ≢ Some overlaps }
-        ensures turns { Spends (S.view steps.old) (S.view steps.new) left.old left.new }
+        ensures turn { 0 < left.new }
+        ensures less { left.new ≤ left.old }
+        ensures made { (S.view steps.new).steps + left.new ≡ (S.view steps.old).steps + left.old }
         ensures fits { (u : View) → Fits (S.sizes steps.old) u self.old room.old (S.view steps.old) →
             Fits (S.sizes steps.old) u self.new room.new (S.view steps.new) }
     {
         let Stage::Placed { position, part } = &mut self.stage else {
-            unreachable!()
+            return;
         };
         let Part::Validate { case, validate } = part else {
-            unreachable!()
+            return;
         };
         let cells = case.cells(&position.verdict);
         let Room {

@@ -50,10 +50,6 @@ pub enum Outcome {
     Crowded(Blocker),
 }
 
-/// How many stages may follow one another with no step of the machine in between: the opening, then of an attempt the place that is sought,
-/// numbers that are brought into the hand, cells that are validated, and the change that is made, then the close.
-const STAGES: u32 = 6;
-
 /// Where a write stands between two of its steps.
 #[derive(Clone, Copy)]
 pub enum Stage {
@@ -329,7 +325,8 @@ impl Write {
         self.stage = Stage::Exit { exit, outcome };
     }
 
-    /// Makes its steps, stage after stage, as far as nothing stops it.
+    /// Makes its steps, as far as nothing stops it: those of the opening, of an attempt, and of the close.
+    #[inline(never)]
     pub(crate) fn hurry<S: EpochSteps>(&mut self, steps: &mut S, room: &mut Room, limbo: &mut Limbo)
         requires admitted { S.admits steps.old room.old.row.key.items }
         requires fits { (u : View) × (ps : List Place) ×
@@ -343,31 +340,29 @@ impl Write {
             Fits (S.sizes steps.old) u ps self.old room.old (places_of limbo.old) (S.view steps.old) →
             Fits (S.sizes steps.old) u ps self.new room.new (places_of limbo.new) (S.view steps.new) }
     {
-        // each stage goes on where the one before it ended, with no step of the machine in between
-        'stages: for _ in 0..STAGES {
-            self.hurry_stage(steps, room, limbo);
-        }
+        // each goes on where the one before it ended, with no step of the machine in between
+        self.frame_on(steps, room, limbo);
+        self.attempt_on(steps, room);
+        self.frame_on(steps, room, limbo);
     }
 
-    /// Makes the steps of the stage where it stands, one after another.
+    /// Makes the steps of its attempt, if it stands in one.
     #[inline(always)]
-    fn hurry_stage<S: EpochSteps>(&mut self, steps: &mut S, room: &mut Room, limbo: &mut Limbo)
+    fn attempt_on<S: EpochSteps>(&mut self, steps: &mut S, room: &mut Room)
         requires admitted { S.admits steps.old room.old.row.key.items }
-        requires fits { (u : View) × (ps : List Place) ×
-            Fits (S.sizes steps.old) u ps self.old room.old (places_of limbo.old) (S.view steps.old) }
+        requires fits { (u : View) × (ps : List Place) × (qs : List Place) ×
+            Fits (S.sizes steps.old) u ps self.old room.old qs (S.view steps.old) }
         ensures only { S.only steps.old steps.new }
         ensures same { IsSameWrite self.old room.old self.new room.new }
         ensures later { (S.view steps.old).steps ≤ (S.view steps.new).steps }
-        ensures left { (S.view steps.new).steps + steps_left self.new room.new (places_of limbo.new) ≤
-            (S.view steps.old).steps + steps_left self.old room.old (places_of limbo.old) }
-        ensures fits { (u : View) (ps : List Place) →
-            Fits (S.sizes steps.old) u ps self.old room.old (places_of limbo.old) (S.view steps.old) →
-            Fits (S.sizes steps.old) u ps self.new room.new (places_of limbo.new) (S.view steps.new) }
+        ensures left { (qs : List Place) → (S.view steps.new).steps + steps_left self.new room.new qs ≤
+            (S.view steps.old).steps + steps_left self.old room.old qs }
+        ensures fits { (u : View) (ps qs : List Place) → Fits (S.sizes steps.old) u ps self.old room.old qs (S.view steps.old) →
+            Fits (S.sizes steps.old) u ps self.new room.new qs (S.view steps.new) }
     {
         match self.stage {
             Stage::Trying(_) => self.try_on(steps, room),
-            Stage::Enter(_) | Stage::Exit { .. } => self.frame_on(steps, room, limbo),
-            Stage::Ended(_) => {}
+            Stage::Enter(_) | Stage::Exit { .. } | Stage::Ended(_) => {}
         }
     }
 
@@ -424,7 +419,7 @@ impl Write {
         }
     }
 
-    /// Makes the steps of the stage where its attempt stands.
+    /// Makes the steps of its attempt, stage after stage.
     fn try_on<S: EpochSteps>(&mut self, steps: &mut S, room: &mut Room)
         requires stage { (t : AttemptOf) × (self.old.stage ≡ stages.Trying t) }
         requires admitted { S.admits steps.old room.old.row.key.items }

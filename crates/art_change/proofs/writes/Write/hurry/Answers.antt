@@ -1,48 +1,71 @@
--- One stage more.
-use Rattle.std.proofs.Common.{◌∙◌, ℕ, refl, sym, subst, arith}
+-- The opening, an attempt, and the close.
+use Rattle.std.proofs.Common.{◌∙◌, ℕ, subst, sym, arith}
 use Rattle.arrayvec.specs.ArrayVec.{ArrayVec}
-use Rattle.art_change.proofs.SameWrite.{same_still, same_then}
+use Rattle.art_change.proofs.SameWrite.{same_then}
 use Rattle.art_change.specs.Writes.{Fits}
 use Rattle.art_epoch.specs.Limbo.{places_of}
 use Rattle.art_step.specs.declared.views.Sizes.{Sizes}
 use Rattle.art_change.proofs.writes.Write.hurry.Goals as goal
 
-pub stages-init : goal.stages-init
-stages-init g c = record {
-  only = g.met.S.Steps.only_same c.args.steps.now;
-  sizes = refl;
-  same = same_still c.args.self.now c.args.room.now;
-  later = omega arith;
-  left = omega arith;
-  fits = λ u ps fits. fits;
-}
-
-pub hurry_stage-requires-clause-admitted : goal.hurry_stage-requires-clause-admitted
-hurry_stage-requires-clause-admitted g c =
-    let l = c.stages in
-    let i = l.invariant in
-    subst (λ (k : ArrayVec ℕ). g.S.Steps.admits l.steps k.items) (sym i.same.key.key)
-    ((g.met.S.Steps.only_admits c.args.steps.now l.steps c.args.room.now.row.key.items i.only).1 c.requires.admitted)
-
-pub hurry_stage-requires-clause-fits : goal.hurry_stage-requires-clause-fits
-hurry_stage-requires-clause-fits g c =
-    let l = c.stages in
-    let q = c.requires.fits in
-    (q.0, q.1, subst (λ (z : Sizes). Fits z q.0 q.1 l.self l.room (places_of l.limbo) (g.S.Steps.view l.steps)) (sym l.invariant.sizes) (l.invariant.fits q.0 q.1 q.2))
-
-pub stages-preserved : goal.stages-preserved
-stages-preserved g c =
-    let l = c.stages in
-    let i = l.invariant in
-    let e = c.hurry_stage.ensures in
-    let n = c.hurry_stage.new in
+pub attempt_on-requires-clause-admitted : goal.attempt_on-requires-clause-admitted
+attempt_on-requires-clause-admitted g c =
     let s = c.args.steps.now in
-    record {
-      only = g.met.S.Steps.only_then s l.steps n.steps i.only e.only;
-      sizes = g.met.S.Steps.only_sizes l.steps n.steps e.only ∙ i.sizes;
-      same = same_then c.args.self.now c.args.room.now l.self l.room n.self n.room i.same e.same;
-      later = let more = e.later in let before = i.later in omega (arith, more, before);
-      left = let few = e.left in let before = i.left in omega (arith, few, before);
-      fits = λ u ps fits. subst (λ (z : Sizes). Fits z u ps n.self n.room (places_of n.limbo) (g.S.Steps.view n.steps)) i.sizes
-          (e.fits u ps (subst (λ (z : Sizes). Fits z u ps l.self l.room (places_of l.limbo) (g.S.Steps.view l.steps)) (sym i.sizes) (i.fits u ps fits)));
-    }
+    let a = c.frame_on.new in
+    subst (λ (k : ArrayVec ℕ). g.S.Steps.admits a.steps k.items) (sym c.frame_on.ensures.same.key.key)
+    ((g.met.S.Steps.only_admits s a.steps c.args.room.now.row.key.items c.frame_on.ensures.only).1 c.requires.admitted)
+
+pub attempt_on-requires-clause-fits : goal.attempt_on-requires-clause-fits
+attempt_on-requires-clause-fits g c =
+    let s = c.args.steps.now in
+    let a = c.frame_on.new in
+    let q = c.requires.fits in
+    let same = g.met.S.Steps.only_sizes s a.steps c.frame_on.ensures.only in
+    (q.0, q.1, places_of a.limbo, subst (λ (z : Sizes). Fits z q.0 q.1 a.self a.room (places_of a.limbo) (g.S.Steps.view a.steps)) (sym same) (c.frame_on.ensures.fits q.0 q.1 q.2))
+
+pub frame_on-requires-2 : goal.frame_on-requires-2
+frame_on-requires-2 g c =
+    let s = c.args.steps.now in
+    let a = c.frame_on.new in
+    let b = c.attempt_on.new in
+    let q = c.requires.fits in
+    let same = g.met.S.Steps.only_sizes s a.steps c.frame_on.ensures.only in
+    let more = g.met.S.Steps.only_sizes a.steps b.steps c.attempt_on.ensures.only in
+    let opened = subst (λ (z : Sizes). Fits z q.0 q.1 a.self a.room (places_of a.limbo) (g.S.Steps.view a.steps)) (sym same) (c.frame_on.ensures.fits q.0 q.1 q.2) in
+    let tried = c.attempt_on.ensures.fits q.0 q.1 (places_of a.limbo) opened in
+    record { fits = (q.0, q.1, subst (λ (z : Sizes). Fits z q.0 q.1 b.self b.room (places_of a.limbo) (g.S.Steps.view b.steps)) (sym more) tried) }
+
+pub returns-clause-only : goal.returns-clause-only
+returns-clause-only g c =
+    let then = g.met.S.Steps.only_then in
+    let s = c.args.steps.now in
+    then s c.attempt_on.new.steps c.frame_on-2.new.steps
+    (then s c.frame_on.new.steps c.attempt_on.new.steps c.frame_on.ensures.only c.attempt_on.ensures.only) c.frame_on-2.ensures.only
+
+pub returns-clause-same : goal.returns-clause-same
+returns-clause-same g c =
+    let m = c.args.self.now in
+    let r = c.args.room.now in
+    let a = c.frame_on.new in
+    let b = c.attempt_on.new in
+    let n = c.frame_on-2.new in
+    same_then m r b.self b.room n.self n.room (same_then m r a.self a.room b.self b.room c.frame_on.ensures.same c.attempt_on.ensures.same) c.frame_on-2.ensures.same
+
+pub returns-clause-left : goal.returns-clause-left
+returns-clause-left g c =
+    let first = c.frame_on.ensures.left in
+    let then = c.attempt_on.ensures.left (places_of c.frame_on.new.limbo) in
+    let last = c.frame_on-2.ensures.left in
+    omega (arith, first, then, last)
+
+pub returns-clause-fits : goal.returns-clause-fits
+returns-clause-fits g c u ps fits =
+    let s = c.args.steps.now in
+    let a = c.frame_on.new in
+    let b = c.attempt_on.new in
+    let n = c.frame_on-2.new in
+    let same = g.met.S.Steps.only_sizes s a.steps c.frame_on.ensures.only in
+    let more = g.met.S.Steps.only_sizes a.steps b.steps c.attempt_on.ensures.only in
+    let opened = c.frame_on.ensures.fits u ps fits in
+    let tried = c.attempt_on.ensures.fits u ps (places_of a.limbo) (subst (λ (z : Sizes). Fits z u ps a.self a.room (places_of a.limbo) (g.S.Steps.view a.steps)) (sym same) opened) in
+    let closed = c.frame_on-2.ensures.fits u ps (subst (λ (z : Sizes). Fits z u ps b.self b.room (places_of a.limbo) (g.S.Steps.view b.steps)) (sym more) tried) in
+    subst (λ (z : Sizes). Fits z u ps n.self n.room (places_of n.limbo) (g.S.Steps.view n.steps)) (more ∙ same) closed
