@@ -1,1 +1,3 @@
+pub mod Clients
 pub mod Letters
+pub mod Turns

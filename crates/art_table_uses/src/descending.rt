@@ -1,13 +1,13 @@
 //! Drawn calls and scans under schemas with columns that descend answer as a map of rows does.
 ghost use Rattle.art_table.specs.Tables.{IsPassOf};
 
-use crate::replies::{check_reply, reply_of_get, reply_of_insert, reply_of_remove};
+use crate::replies::{check_reply, gets, inserts, removes};
 use crate::tables::{SIZES, TURNS, alone, closed_alone};
 use arrayvec::ArrayVec;
 use art_key::{Kind, Schema};
 use art_model::{Command, Order, Reply, Row, SortedRows, Text, Tuple, Value, scan_ok};
 use art_scan::{More, ScanFault, scan};
-use art_table::{Config, Pass, Table, get, insert, remove};
+use art_table::{Config, Pass, Table};
 use rand_pcg::Pcg32;
 use rand_pcg::rand_core::{Rng, SeedableRng};
 use std::alloc::Global;
@@ -116,27 +116,11 @@ fn calls(
     let value = numbers.next_u64();
     match value % 4 {
         0 => {
-            let told = insert(table, pass, &tuple, value, TURNS).expect(rt, "an answer");
-            check_reply(
-                rt,
-                &mut states[0],
-                &Command::Insert(tuple, value),
-                reply_of_insert(told),
-            );
+            let refused = inserts(rt, table, pass, &mut states[0], tuple, value);
+            assert!(rt; !refused);
         }
-        1 => {
-            let told = remove(table, pass, &tuple, TURNS).expect(rt, "an answer");
-            check_reply(
-                rt,
-                &mut states[0],
-                &Command::Remove(tuple),
-                reply_of_remove(told),
-            );
-        }
-        2 => {
-            let told = get(table, pass, &tuple, TURNS).expect(rt, "an answer");
-            check_reply(rt, &mut states[0], &Command::Get(tuple), reply_of_get(told));
-        }
+        1 => removes(rt, table, pass, &mut states[0], tuple),
+        2 => gets(rt, table, pass, &mut states[0], tuple),
         _ => {
             let other = draw_tuple(rt, table.schema(), numbers);
             scans(rt, table, pass, states, (tuple, other), value / 4 % 20 + 1);

@@ -1,11 +1,11 @@
 //! Drawn calls of one pass over small pools answer as a map of rows does.
 ghost use Rattle.art_table.specs.Tables.{IsPassOf};
 
-use crate::replies::{check_reply, reply_of_get, reply_of_insert, reply_of_remove};
-use crate::tables::{TURNS, alone, closed_alone};
-use art_key::{Bound, Key, Schema, encode};
-use art_model::{Command, Reply, Row, SortedRows, Text, Tuple, Value};
-use art_table::{Config, Fault, Inserted, Pass, Table, get, insert, look, remove};
+use crate::replies::{gets, inserts, removes};
+use crate::tables::{TURNS, alone, closed_alone, key_of};
+use art_key::{Bound, Schema};
+use art_model::{Row, SortedRows, Text, Tuple, Value};
+use art_table::{Config, Pass, Table, look};
 use rand_pcg::Pcg32;
 use rand_pcg::rand_core::{Rng, SeedableRng};
 use std::alloc::Global;
@@ -66,67 +66,6 @@ impl Columns {
         }
         tuple
     }
-}
-
-/// An insert that is refused finds no number, and is one of a row that is not there: whether it was refused.
-fn check_insert(
-    rt: &impl Abort,
-    rows: &mut SortedRows,
-    tuple: Tuple,
-    value: u64,
-    told: Result<Inserted, Fault>,
-) -> bool {
-    match told {
-        Ok(told) => {
-            let wanted = reply_of_insert(told);
-            check_reply(rt, rows, &Command::Insert(tuple, value), wanted);
-            false
-        }
-        Err(fault) => {
-            assert!(rt; matches!(fault, Fault::Full(_)));
-            check_reply(rt, rows, &Command::Get(tuple), Reply::Absent);
-            true
-        }
-    }
-}
-
-/// An insert answers as the map does, or is refused: whether it was.
-fn inserts(
-    rt: &impl Abort,
-    table: &Table,
-    pass: &mut Pass,
-    rows: &mut SortedRows,
-    tuple: Tuple,
-    value: u64,
-) -> bool
-    requires { IsPassOf table.now pass.old }
-    ensures { IsPassOf table.now pass.new }
-{
-    let told = insert(table, pass, &tuple, value, TURNS);
-    check_insert(rt, rows, tuple, value, told)
-}
-
-/// A removal is never refused for want of a number.
-fn removes(rt: &impl Abort, table: &Table, pass: &mut Pass, rows: &mut SortedRows, tuple: Tuple)
-    requires { IsPassOf table.now pass.old }
-    ensures { IsPassOf table.now pass.new }
-{
-    let told = remove(table, pass, &tuple, TURNS).expect(rt, "an answer");
-    check_reply(rt, rows, &Command::Remove(tuple), reply_of_remove(told));
-}
-
-/// A get finds what the map has.
-fn gets(rt: &impl Abort, table: &Table, pass: &mut Pass, rows: &mut SortedRows, tuple: Tuple)
-    requires { IsPassOf table.now pass.old }
-    ensures { IsPassOf table.now pass.new }
-{
-    let told = get(table, pass, &tuple, TURNS).expect(rt, "an answer");
-    check_reply(rt, rows, &Command::Get(tuple), reply_of_get(told));
-}
-
-/// The key of a tuple of the schema.
-fn key_of(rt: &impl Abort, schema: &Schema, tuple: &Tuple) -> Key {
-    encode(schema, tuple).expect(rt, "a tuple of the schema")
 }
 
 /// The rows from the one bound on, before the other, are this one, or none.

@@ -4,16 +4,14 @@ ghost use Rattle.art_table.specs.Tables.{IsPassOf};
 ghost use Rattle.art_table_uses.specs.Letters.{IsNamed, basis_of_mark, table_of_mark};
 ghost use Rattle.std.specs.Prelude.{◌≡◌};
 
-use crate::tables::{SIZES, check_find, check_put, last_of, opened};
-use art_table::{Config, Inserted, Mark, Pass, Table, learn, mark, meet};
+use crate::tables::{TWO_PASSES, by_two, check_find, check_put};
+use art_table::{Inserted, Mark, Pass, Table, learn, mark, meet};
 use crossbeam_channel::{Receiver, Sender, bounded};
 use std::alloc::Global;
 use std::marker::{Brand, PhantomData};
 use std::process::Abort;
 use std::sync::Wait;
 use std::thread::{Threads, join};
-
-const TWO_PASSES: Config = Config { passes: 2, ..SIZES };
 
 /// The name of a table, of which letters are: a test picks it.
 trait Naming {
@@ -98,17 +96,13 @@ fn over_a_channel<N: Naming + Send + Sync, R: Threads + Wait + Abort + Sync>(
 
 #[test]
 fn a_mark_goes_over_a_channel(rt: HostRuntime) {
-    let (table, mut passes) = opened(&rt, rt.alloc(), "u16", TWO_PASSES);
-    let one = last_of(&rt, &table, &mut passes);
-    let two = last_of(&rt, &table, &mut passes);
+    let (table, one, two) = by_two(&rt, rt.alloc(), "u16", TWO_PASSES);
     over_a_channel::<Brand, _>(&rt, rt.alloc(), &table, one, two);
 }
 
 #[test]
 fn two_passes_meet(rt: HostRuntime) {
-    let (table, mut passes) = opened(&rt, rt.alloc(), "u16", TWO_PASSES);
-    let mut one = last_of(&rt, &table, &mut passes);
-    let mut two = last_of(&rt, &table, &mut passes);
+    let (table, mut one, mut two) = by_two(&rt, rt.alloc(), "u16", TWO_PASSES);
     check_put(&rt, &table, &mut one, 7, 70, Ok(Inserted::New));
     meet(&table, &mut one, &mut two);
     check_find(&rt, &table, &mut two, 7, Ok(Some(70)));

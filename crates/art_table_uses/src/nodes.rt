@@ -2,10 +2,10 @@
 ghost use Rattle.art_table.specs.Tables.{IsPassOf};
 
 use crate::tables::{
-    SIZES, alone, check_count, check_find, check_put, check_take, closed_alone, empties, fills,
+    SIZES, alone, check_count, check_find, check_put, check_take, check_whole, closed_alone,
+    empties, fills,
 };
 use art_cell::Pool;
-use art_closed::PoolCount;
 use art_table::{Closed, Config, Fault, Inserted};
 use std::alloc::Global;
 use std::process::Abort;
@@ -21,18 +21,10 @@ fn check_nodes(rt: &impl Abort, end: &Closed, wanted: [u32; 4]) {
     assert_eq!(rt; nodes, wanted);
 }
 
-/// Whether each number of the pool, of so many, is linked, free or in limbo.
-fn is_whole(count: &PoolCount, size: u32) -> bool {
-    let held = count.linked.wrapping_add(count.in_limbo);
-    held.wrapping_add(count.free) == size
-}
-
 /// So many leaves are linked, and all numbers of each pool accounted for.
 fn check_numbers(rt: &impl Abort, end: &Closed, leaves: u64) {
     assert_eq!(rt; u64::from(end.leaves.linked), leaves);
-    assert!(rt; is_whole(&end.leaves, SIZES.leaves) && is_whole(&end.n4, SIZES.n4));
-    assert!(rt; is_whole(&end.n16, SIZES.n16) && is_whole(&end.n48, SIZES.n48));
-    assert!(rt; is_whole(&end.n256, SIZES.n256));
+    check_whole(rt, end, SIZES);
 }
 
 /// Where so many rows were inserted, and the first `gone` of them removed again, these nodes are left.

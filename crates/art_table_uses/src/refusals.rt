@@ -2,15 +2,13 @@
 ghost use Rattle.art_table.specs.Tables.{IsPassOf};
 
 use crate::tables::{
-    SIZES, alone, check_count, check_find, check_put, check_take, closed_alone, fills, last_of,
-    opened, row_of,
+    SIZES, TWO_PASSES, alone, by_two, check_count, check_find, check_put, check_take, closed_alone,
+    fills, row_of,
 };
 use art_cell::{Cell, Pool};
 use art_table::{Closed, Config, Fault, Inserted, Pass, Table};
 use std::alloc::Global;
 use std::process::Abort;
-
-const TWO_PASSES: Config = Config { passes: 2, ..SIZES };
 
 #[test]
 fn a_third_row_finds_no_leaf_of_two(rt: HostRuntime) {
@@ -31,9 +29,7 @@ fn two_passes_share_two_leaves(rt: HostRuntime) {
         leaves: 2,
         ..TWO_PASSES
     };
-    let (table, mut passes) = opened(&rt, rt.alloc(), "u8", config);
-    let mut one = last_of(&rt, &table, &mut passes);
-    let mut zero = last_of(&rt, &table, &mut passes);
+    let (table, mut zero, mut one) = by_two(&rt, rt.alloc(), "u8", config);
     fills(&rt, &table, &mut zero, 1, 3);
     let full = Err(Fault::Full(Pool::Leaves));
     check_put(&rt, &table, &mut one, 3, 3, full);

@@ -2,19 +2,17 @@
 ghost use Rattle.art_table.specs.Tables.{AreOf, IsPassOf};
 
 use crate::tables::{
-    SIZES, TURNS, alone, check_count, check_find, check_put, check_take, closed, closed_alone,
-    last_of, opened, row_of, schema_of, tuple_of, with_last,
+    SIZES, TWO_PASSES, alone, at, by_two, check_count, check_find, check_put, check_take, closed,
+    closed_alone, row_of, schema_of, sees, tuple_of, with_last,
 };
-use art_key::{Bound, ValueFault, encode};
+use art_key::ValueFault;
 use art_model::{Row, Tuple, Value};
 use art_table::{
     CloseFault, CloseRefusal, Closed, Config, Fault, Inserted, OpenFault, Pass, Seen, Table, close,
-    get, insert, look, open,
+    get, insert, open,
 };
 use std::alloc::Global;
 use std::process::Abort;
-
-const TWO_PASSES: Config = Config { passes: 2, ..SIZES };
 
 /// A get of the tuple with so many turns is answered so.
 fn check_get(
@@ -125,28 +123,6 @@ fn a_size_out_of_its_range_is_refused(rt: HostRuntime) {
     }
 }
 
-/// The bound at the key of a number.
-fn at(rt: &impl Abort, table: &Table, number: u64) -> Bound {
-    let key = encode(table.schema(), &tuple_of(number));
-    Bound::At(key.expect(rt, "a number of the column"))
-}
-
-/// A look from the one number on, before the other: what it has seen.
-fn sees(rt: &impl Abort, table: &Table, pass: &mut Pass, lo: u64, hi: u64) -> Seen
-    requires { IsPassOf table.now pass.old }
-    ensures { IsPassOf table.now pass.new }
-{
-    let (mut from, end) = (at(rt, table, lo), at(rt, table, hi));
-    assert!(rt; from.before(&end));
-    let mut row = Row::default();
-    let found = look(table, pass, &mut from, &end, TURNS, &mut row).expect(rt, "an answer");
-    Seen {
-        lo: at(rt, table, lo),
-        hi: from,
-        row: if found { Some(row) } else { None },
-    }
-}
-
 /// A look from the one number on, before 10, sees the range from there to the key of `end`, with this row.
 fn check_look(
     rt: &impl Abort,
@@ -161,7 +137,8 @@ fn check_look(
 {
     let (lo, hi) = (at(rt, table, from), at(rt, table, end));
     let wanted = Seen { lo, hi, row };
-    assert_eq!(rt; sees(rt, table, pass, from, 10), wanted);
+    let ten = at(rt, table, 10);
+    assert_eq!(rt; sees(rt, table, pass, from, &ten), Ok(wanted));
 }
 
 #[test]
@@ -214,9 +191,7 @@ fn check_leaves(rt: &impl Abort, end: &Closed, linked: u32) {
 
 #[test]
 fn a_close_wants_all_passes(rt: HostRuntime) {
-    let (table, mut passes) = opened(&rt, rt.alloc(), "u64", TWO_PASSES);
-    let other = last_of(&rt, &table, &mut passes);
-    let mut one = last_of(&rt, &table, &mut passes);
+    let (table, mut one, other) = by_two(&rt, rt.alloc(), "u64", TWO_PASSES);
     check_numbers(&rt, &one, &other, (0, 1));
     check_put(&rt, &table, &mut one, 5, 9, Ok(Inserted::New));
     let (table, passes) = refused(&rt, rt.alloc(), table, one, other);

@@ -1,9 +1,12 @@
 //! Tables for tests, and calls of their passes.
 ghost use Rattle.art_table.specs.Tables.{AreOf, IsPassOf};
 
-use art_key::Schema;
+use art_closed::PoolCount;
+use art_key::{Bound, Key, Schema, encode};
 use art_model::{Row, Tuple, Value};
-use art_table::{Closed, Config, Fault, Inserted, Pass, Table, close, get, insert, open, remove};
+use art_table::{
+    Closed, Config, Fault, Inserted, Pass, Seen, Table, close, get, insert, look, open, remove,
+};
 use std::alloc::Global;
 use std::process::Abort;
 
@@ -18,6 +21,21 @@ pub(crate) const SIZES: Config = Config {
     n48: 8,
     n256: 4,
     passes: 1,
+    counter_start: 0,
+};
+
+/// The same, with two passes.
+pub(crate) const TWO_PASSES: Config = Config { passes: 2, ..SIZES };
+
+/// Sizes for two passes that go on side by side, with four words of free numbers in each pool: a call that loses a number to another
+/// looks in the next word, and is refused where there is none.
+pub(crate) const SIDE_BY_SIDE: Config = Config {
+    leaves: 256,
+    n4: 256,
+    n16: 256,
+    n48: 256,
+    n256: 256,
+    passes: 2,
     counter_start: 0,
 };
 
@@ -37,6 +55,16 @@ pub(crate) fn row_of(number: u64, value: u64) -> Row {
 /// The schema that the text says.
 pub(crate) fn schema_of(rt: &impl Abort, text: &str) -> Schema {
     Schema::parse(text).expect(rt, "a schema")
+}
+
+/// The key of a tuple of the schema.
+pub(crate) fn key_of(rt: &impl Abort, schema: &Schema, tuple: &Tuple) -> Key {
+    encode(schema, tuple).expect(rt, "a tuple of the schema")
+}
+
+/// The bound at the key of a number.
+pub(crate) fn at(rt: &impl Abort, table: &Table, number: u64) -> Bound {
+    Bound::At(key_of(rt, table.schema(), &tuple_of(number)))
 }
 
 /// A table of these sizes under the schema that the text says, and its passes.
@@ -68,6 +96,22 @@ pub(crate) fn alone(rt: &impl Abort, alloc: Global, text: &str, config: Config) 
     let (table, mut passes) = opened(rt, alloc, text, config);
     let pass = last_of(rt, &table, &mut passes);
     (table, pass)
+}
+
+/// A table of these sizes, of two passes: the first and the last.
+pub(crate) fn by_two(
+    rt: &impl Abort,
+    alloc: Global,
+    text: &str,
+    config: Config,
+) -> (Table, Pass, Pass)
+    ensures zero { IsPassOf result.0 result.1 }
+    ensures one { IsPassOf result.0 result.2 }
+{
+    let (table, mut passes) = opened(rt, alloc, text, config);
+    let one = last_of(rt, &table, &mut passes);
+    let zero = last_of(rt, &table, &mut passes);
+    (table, zero, one)
 }
 
 /// These passes and one more.
@@ -103,9 +147,38 @@ pub(crate) fn closed_alone(rt: &impl Abort, alloc: Global, table: Table, pass: P
     closed(rt, alloc, table, passes)
 }
 
+/// What the table of two passes held.
+pub(crate) fn closed_by_two(
+    rt: &impl Abort,
+    alloc: Global,
+    table: Table,
+    zero: Pass,
+    one: Pass,
+) -> Closed
+    requires zero { IsPassOf table zero }
+    requires one { IsPassOf table one }
+{
+    let passes = with_last(rt, &table, Vec::new(alloc), zero);
+    let passes = with_last(rt, &table, passes, one);
+    closed(rt, alloc, table, passes)
+}
+
 /// So many rows stood at the close.
 pub(crate) fn check_count(rt: &impl Abort, end: &Closed, wanted: usize) {
     assert_eq!(rt; end.rows.len(), wanted);
+}
+
+/// Whether each number of the pool, of so many, is linked, free or in limbo.
+fn is_whole(count: &PoolCount, size: u32) -> bool {
+    let held = count.linked.wrapping_add(count.in_limbo);
+    held.wrapping_add(count.free) == size
+}
+
+/// All numbers of each pool, of these sizes, were accounted for at the close.
+pub(crate) fn check_whole(rt: &impl Abort, end: &Closed, sizes: Config) {
+    assert!(rt; is_whole(&end.leaves, sizes.leaves) && is_whole(&end.n4, sizes.n4));
+    assert!(rt; is_whole(&end.n16, sizes.n16) && is_whole(&end.n48, sizes.n48));
+    assert!(rt; is_whole(&end.n256, sizes.n256));
 }
 
 /// An insert of the row of a number.
@@ -122,7 +195,7 @@ pub(crate) fn puts(
 }
 
 /// A removal of the row of a number.
-fn takes(table: &Table, pass: &mut Pass, number: u64) -> Result<Option<u64>, Fault>
+pub(crate) fn takes(table: &Table, pass: &mut Pass, number: u64) -> Result<Option<u64>, Fault>
     requires { IsPassOf table.now pass.old }
     ensures { IsPassOf table.now pass.new }
 {
@@ -130,11 +203,35 @@ fn takes(table: &Table, pass: &mut Pass, number: u64) -> Result<Option<u64>, Fau
 }
 
 /// A get of the row of a number.
-fn finds(table: &Table, pass: &mut Pass, number: u64) -> Result<Option<u64>, Fault>
+pub(crate) fn finds(table: &Table, pass: &mut Pass, number: u64) -> Result<Option<u64>, Fault>
     requires { IsPassOf table.now pass.old }
     ensures { IsPassOf table.now pass.new }
 {
     get(table, pass, &tuple_of(number), TURNS)
+}
+
+/// What a look from the one bound on has seen that was answered so, at the other.
+fn seen_by(told: Result<bool, Fault>, lo: Bound, hi: Bound, row: Row) -> Result<Seen, Fault> {
+    let row = if told? { Some(row) } else { None };
+    Ok(Seen { lo, hi, row })
+}
+
+/// A look from the key of a number on, before `end`: what it has seen.
+pub(crate) fn sees(
+    rt: &impl Abort,
+    table: &Table,
+    pass: &mut Pass,
+    number: u64,
+    end: &Bound,
+) -> Result<Seen, Fault>
+    requires { IsPassOf table.now pass.old }
+    ensures { IsPassOf table.now pass.new }
+{
+    let mut from = at(rt, table, number);
+    assert!(rt; from.before(end));
+    let mut row = Row::default();
+    let told = look(table, pass, &mut from, end, TURNS, &mut row);
+    seen_by(told, at(rt, table, number), from, row)
 }
 
 /// An insert of the row of a number is answered so.

@@ -7,8 +7,7 @@ use std::process::Abort;
 use std::thread;
 use std::thread::Threads;
 
-/// Many words of free numbers in each pool: an insert that loses a number to another thread looks in the next word, and is refused
-/// where there is none.
+/// Many words of free numbers in each pool, since four threads take numbers at once.
 const MANY: Config = Config {
     leaves: 4096,
     n4: 1024,

@@ -1,4 +1,0 @@
-use Rattle.art_turns_uses.proofs.commands.begun.Goals as goal
-
-pub returns : goal.returns
-returns c = record { command = c.args.command; turns = 1000; pass = c.args.pass; runs = c.start_command.ensures.running }

@@ -1,4 +1,0 @@
-use Rattle.art_turns_uses.proofs.commands.finished.Goals as goal
-
-pub finish-requires : goal.finish-requires
-finish-requires c = (c.requires.command, c.requires.turns, c.requires.pass, c.requires.runs)

@@ -1,5 +1,0 @@
-use Rattle.art_table.specs.Tables.{IsPassOf}
-use Rattle.art_turns_uses.proofs.tables.empties.Given as goal
-
-abbrev pub invariant-loop-number : goal.invariant-loop-number
-invariant-loop-number g l = IsPassOf l.table l.pass
