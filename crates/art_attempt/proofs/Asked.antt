@@ -9,12 +9,12 @@ use Rattle.art_cell.specs.declared.cells.Cell.{Cell}
 use Rattle.art_cell.specs.declared.cells.Cell.TheVariants as cell
 use Rattle.art_key.specs.declared.bounds.Bound.TheVariants.{End}
 use Rattle.art_epoch.specs.Taking as taking
-use Rattle.art_epoch.specs.declared.taking.Search.{Search}
-use Rattle.art_epoch.specs.declared.taking.Search.TheVariants.{Looking, Clearing, Took}
-use Rattle.art_epoch.specs.declared.taking.Taking.{Taking}
+use Rattle.art_epoch.specs.declared.stocks.Search.{Search}
+use Rattle.art_epoch.specs.declared.stocks.Search.TheVariants.{Looking, Clearing, Took}
+use Rattle.art_epoch.specs.declared.stocks.Taking.{Taking}
 use Rattle.art_find.specs.Rereadings.{reads_next}
 use Rattle.art_find.specs.declared.findings.Position.{Position}
-use Rattle.art_find.specs.declared.rereadings.Rereading.{Rereading}
+use Rattle.art_find.specs.declared.read_sets.Rereading.{Rereading}
 use Rattle.art_epoch.specs.declared.stocks.Stock.{Stock}
 use Rattle.art_attempt.specs.Naming as naming
 use Rattle.art_attempt.specs.Reserve as reserve

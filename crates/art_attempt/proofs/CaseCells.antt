@@ -13,11 +13,11 @@ use Rattle.art_attempt.specs.Cases.{HasLeaf, IsLockedBy, LocksChecked, cells_of}
 use Rattle.art_attempt.specs.Rooms.{number_for}
 use Rattle.art_attempt.specs.Trying.{HasSpent, IsKey, IsLater, StillTries, StoodAtCheck, WasChecked}
 use Rattle.art_attempt.specs.declared.attempts.Job.{Job}
-use Rattle.art_attempt.specs.declared.cases.Case.{Case}
-use Rattle.art_attempt.specs.declared.cases.Case.TheVariants.{NewLeaf, DropLeaf, Shrink, MergeLeaf, MergeNode, Torn}
-use Rattle.art_attempt.specs.declared.rooms.Room.{Room}
-use Rattle.art_cell.specs.declared.layouts.Layout.{Layout}
-use Rattle.art_cell.specs.declared.layouts.Layout.TheVariants.{Node4}
+use Rattle.art_attempt.specs.declared.attempts.Case.{Case}
+use Rattle.art_attempt.specs.declared.attempts.Case.TheVariants.{NewLeaf, DropLeaf, Shrink, MergeLeaf, MergeNode, Torn}
+use Rattle.art_attempt.specs.declared.attempts.Room.{Room}
+use Rattle.art_cell.specs.declared.cells.Layout.{Layout}
+use Rattle.art_cell.specs.declared.cells.Layout.TheVariants.{Node4}
 use Rattle.art_commit.specs.CommitLaws.{HasNode}
 use Rattle.art_find.specs.Descents.{IsReading}
 use Rattle.art_find.specs.Findings.{IsStanding}
@@ -52,11 +52,11 @@ use Rattle.art_plan.specs.ChooseInsert.Seen.{IsSeen as IsSeenWhole, WasVouched}
 use Rattle.art_plan.specs.ChooseRemove.Losses.{loss_at}
 use Rattle.art_plan.specs.ChooseRemove.Plans.{HasSmaller, IsAnyAt, IsEitherAt, IsNodeAt, MayNotMerge}
 use Rattle.art_plan.specs.ChooseRemove.Seen.{AreSeen, IsLowerSeen, IsSeen, StillKnown}
-use Rattle.art_plan.specs.declared.choose_remove.lowers.Lower.{Lower as LowerNode}
+use Rattle.art_plan.specs.declared.choose_remove.Lower.{Lower as LowerNode}
 use Rattle.art_plan.specs.Insert.Cases.{IsInHand}
 use Rattle.art_plan.specs.declared.changes.Change.{Change}
-use Rattle.art_plan.specs.declared.choose_remove.losses.Loss.{Loss}
-use Rattle.art_plan.specs.declared.choose_remove.losses.Loss.TheVariants as loss
+use Rattle.art_plan.specs.declared.choose_remove.Loss.{Loss}
+use Rattle.art_plan.specs.declared.choose_remove.Loss.TheVariants as loss
 use Rattle.art_step.specs.Views.{size_of}
 use Rattle.art_step.specs.declared.deeds.Deed.{Deed}
 use Rattle.art_step.specs.declared.views.Sizes.{Sizes}

@@ -7,16 +7,16 @@ use Rattle.art_cell.specs.declared.cells.Cell.{Cell}
 use Rattle.art_cell.specs.declared.cells.Cell.TheVariants as cell
 use Rattle.art_cell.specs.declared.cells.Link.{Link}
 use Rattle.art_cell.specs.declared.cells.Node.{Node}
-use Rattle.art_cell.specs.declared.layouts.Layout.{Layout}
-use Rattle.art_cell.specs.declared.layouts.Pool.{Pool}
-use Rattle.art_cell.specs.declared.layouts.Pool.TheVariants.{Leaves}
+use Rattle.art_cell.specs.declared.cells.Layout.{Layout}
+use Rattle.art_cell.specs.declared.cells.Pool.{Pool}
+use Rattle.art_cell.specs.declared.cells.Pool.TheVariants.{Leaves}
 use Rattle.art_plan.specs.ChooseRemove.Losses.{loss_at, loss_of}
 use Rattle.art_plan.specs.ChooseRemove.Plans.{HasOther}
 use Rattle.art_plan.specs.ChooseRemove.Seen.{IsSeen}
-use Rattle.art_plan.specs.declared.choose_remove.losses.Loss.{Loss}
-use Rattle.art_plan.specs.declared.choose_remove.losses.Loss.TheVariants as loss
+use Rattle.art_plan.specs.declared.choose_remove.Loss.{Loss}
+use Rattle.art_plan.specs.declared.choose_remove.Loss.TheVariants as loss
 use Rattle.art_attempt.specs.Trying.{StillTries, StoodAtCheck, at_check}
-use Rattle.art_attempt.specs.declared.rooms.Room.{Room}
+use Rattle.art_attempt.specs.declared.attempts.Room.{Room}
 use Rattle.art_make.specs.Apply.{KeepsCheck}
 use Rattle.art_attempt.proofs.LastCheck.{none_stays, stood_stays}
 use Rattle.art_attempt.specs.Reserve.{StayFound}
@@ -24,8 +24,8 @@ use Rattle.art_attempt.specs.Attempts.{GoesBy, IsExhausted, IsKnown, WantsNumber
 use Rattle.art_attempt.specs.Cases.{HasLeaf, HasNoSmaller, IsCaseOf, IsChosen, IsNeverSeen, IsTold, IsWay, LeafGoes, LeavesOther, LocksChecked, MayStay, cells_of, demand_of, effects_of, leaves_by}
 use Rattle.art_attempt.specs.declared.attempts.Job.{Job}
 use Rattle.art_attempt.specs.declared.attempts.Job.TheVariants.{Insert, Remove}
-use Rattle.art_attempt.specs.declared.cases.Case.{Case}
-use Rattle.art_attempt.specs.declared.cases.Case.TheVariants as case
+use Rattle.art_attempt.specs.declared.attempts.Case.{Case}
+use Rattle.art_attempt.specs.declared.attempts.Case.TheVariants as case
 use Rattle.art_epoch.specs.declared.stocks.Stock.{Stock}
 use Rattle.art_attempt.specs.Reserve.{HasNone}
 use Rattle.art_attempt.specs.Naming.{KnowsHere}
@@ -39,7 +39,7 @@ use Rattle.art_find.specs.Rereadings.{AreKnown}
 use Rattle.art_find.specs.declared.read_sets.ReadSet.{ReadSet}
 use Rattle.art_find.specs.declared.findings.Position.{Position}
 use Rattle.art_plan.specs.Remove.Removals.{remove_effects}
-use Rattle.art_plan.specs.declared.remove.leaves.OldLeaf.{OldLeaf}
+use Rattle.art_plan.specs.declared.remove.OldLeaf.{OldLeaf}
 use Rattle.art_step.specs.Views.{Member, pool_of_layout, size_of}
 use Rattle.art_step.specs.declared.views.Note.{Note}
 use Rattle.art_step.specs.declared.views.Sizes.{Sizes}

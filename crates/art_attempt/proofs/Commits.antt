@@ -11,8 +11,8 @@ use Rattle.art_attempt.specs.Rooms.{spent_by}
 use Rattle.art_attempt.specs.Trying.{StoodAtCheck}
 use Rattle.art_attempt.specs.declared.attempts.Job.{Job}
 use Rattle.art_attempt.specs.declared.attempts.Job.TheVariants.{Insert, Remove}
-use Rattle.art_attempt.specs.declared.cases.Case.{Case}
-use Rattle.art_attempt.specs.declared.rooms.Room.{Room}
+use Rattle.art_attempt.specs.declared.attempts.Case.{Case}
+use Rattle.art_attempt.specs.declared.attempts.Room.{Room}
 use Rattle.art_cell.specs.declared.cells.Link.TheVariants.{Node as node}
 use Rattle.art_cell.specs.declared.cells.Node.{Node}
 use Rattle.art_find.specs.declared.findings.Position.{Position}
@@ -29,8 +29,8 @@ use Rattle.art_plan.specs.ChooseInsert.Plans.{LocksOnly}
 use Rattle.art_plan.specs.Remove.Removals.{remove_effects}
 use Rattle.art_plan.specs.Whole.{twin_node}
 use Rattle.art_plan.specs.declared.changes.Twin.{Twin}
-use Rattle.art_plan.specs.declared.insert.leaves.NewLeaf.{NewLeaf as Row}
-use Rattle.art_plan.specs.declared.remove.leaves.OldLeaf.{OldLeaf}
+use Rattle.art_plan.specs.declared.insert.NewLeaf.{NewLeaf as Row}
+use Rattle.art_plan.specs.declared.remove.OldLeaf.{OldLeaf}
 use Rattle.art_step.specs.Deeds.{IsAdmitted}
 use Rattle.art_step.specs.Events.{MakesEvent}
 use Rattle.art_step.specs.declared.deeds.Act.TheVariants as act

@@ -13,13 +13,13 @@ use Rattle.art_attempt.specs.declared.attempts.Part.{Part}
 use Rattle.art_attempt.specs.declared.attempts.Part.TheVariants as part
 use Rattle.art_attempt.specs.declared.attempts.Stage.{Stage}
 use Rattle.art_attempt.specs.declared.attempts.Stage.TheVariants as stage
-use Rattle.art_attempt.specs.declared.rooms.Room.{Room}
-use Rattle.art_cell.specs.declared.layouts.Pool.{Pool}
+use Rattle.art_attempt.specs.declared.attempts.Room.{Room}
+use Rattle.art_cell.specs.declared.cells.Pool.{Pool}
 use Rattle.art_find.specs.declared.findings.Position.{Position}
 use Rattle.art_epoch.specs.Taking as taking
-use Rattle.art_epoch.specs.declared.taking.Search.{Search}
-use Rattle.art_epoch.specs.declared.taking.Search.TheVariants.{Looking, Clearing, Took}
-use Rattle.art_epoch.specs.declared.taking.Taking.{Taking}
+use Rattle.art_epoch.specs.declared.stocks.Search.{Search}
+use Rattle.art_epoch.specs.declared.stocks.Search.TheVariants.{Looking, Clearing, Took}
+use Rattle.art_epoch.specs.declared.stocks.Taking.{Taking}
 use Rattle.art_epoch.specs.declared.stocks.Stock.{Stock}
 use Rattle.art_attempt.proofs.Reserves.{one_written}
 use Rattle.art_attempt.specs.Reserve as reserve

@@ -15,8 +15,8 @@ use Rattle.art_attempt.specs.declared.attempts.Ending.{Ending}
 use Rattle.art_attempt.specs.declared.attempts.Ending.TheVariants.{Present, Overlaps as overlaps}
 use Rattle.art_attempt.specs.declared.attempts.Job.{Job}
 use Rattle.art_attempt.specs.declared.attempts.Job.TheVariants.{Insert, Remove}
-use Rattle.art_attempt.specs.declared.cases.Case.TheVariants.{NewLeaf}
-use Rattle.art_attempt.specs.declared.rooms.Room.{Room}
+use Rattle.art_attempt.specs.declared.attempts.Case.TheVariants.{NewLeaf}
+use Rattle.art_attempt.specs.declared.attempts.Room.{Room}
 use Rattle.art_cell.specs.declared.cells.Link.{Link}
 use Rattle.art_cell.specs.declared.cells.Link.TheVariants.{Leaf as leaf, Node as node}
 use Rattle.art_plan.specs.ChooseInsert.Plans.{Comes}
@@ -29,8 +29,8 @@ use Rattle.art_find.specs.Verdicts.{Says, value_of}
 use Rattle.art_find.specs.declared.descents.Descent.{Descent}
 use Rattle.art_find.specs.declared.descents.Stage.{Stage}
 use Rattle.art_find.specs.declared.descents.Stage.TheVariants.{Start, Anchor, Child, Below, Both, Header, Prefix, Keys, Slot, Value, Length, Bytes, Decided, Ended}
-use Rattle.art_find.specs.declared.verdicts.Verdict.{Verdict}
-use Rattle.art_find.specs.declared.verdicts.Verdict.TheVariants.{Found, Empty, LeafMismatch, PrefixMismatch, NoChild, Overlaps, Torn, Absent}
+use Rattle.art_find.specs.declared.descents.Verdict.{Verdict}
+use Rattle.art_find.specs.declared.descents.Verdict.TheVariants.{Found, Empty, LeafMismatch, PrefixMismatch, NoChild, Overlaps, Torn, Absent}
 use Rattle.art_epoch.proofs.Stocked.{stock_same}
 use Rattle.art_machine.proofs.AnswerKinds.{answers_plain, finds_word}
 use Rattle.art_machine.specs.Acting.{Answers, IsLook, IsPlain, goes_on, passed, telling}

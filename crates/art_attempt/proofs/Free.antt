@@ -15,11 +15,11 @@ use Rattle.art_attempt.specs.declared.attempts.Part.{Part}
 use Rattle.art_attempt.specs.declared.attempts.Part.TheVariants as part
 use Rattle.art_attempt.specs.declared.attempts.Stage.{Stage}
 use Rattle.art_attempt.specs.declared.attempts.Stage.TheVariants as stage
-use Rattle.art_attempt.specs.declared.rooms.Room.{Room}
+use Rattle.art_attempt.specs.declared.attempts.Room.{Room}
 use Rattle.art_find.proofs.Stages.{still_reading}
 use Rattle.art_find.specs.declared.findings.Finding.{Finding}
 use Rattle.art_find.specs.declared.findings.Position.{Position}
-use Rattle.art_find.specs.declared.rereadings.Rereading.{Rereading}
+use Rattle.art_find.specs.declared.read_sets.Rereading.{Rereading}
 use Rattle.art_epoch.proofs.Stocked.{stock_same}
 use Rattle.art_make.specs.Apply as apply
 use Rattle.art_make.specs.Apply.{IsLocking, so_many}

@@ -4,14 +4,14 @@ use Rattle.art_attempt.proofs.Finds.{ends_reading, within_so, zero_going}
 use Rattle.art_attempt.proofs.Steps.{cell_fails, cell_later, cell_step}
 use Rattle.art_attempt.proofs.Tries.{later_then, still_later}
 use Rattle.art_attempt.proofs.Ends.{anywhere}
-use Rattle.art_attempt.specs.declared.cases.Case.TheVariants.{NewLeaf}
+use Rattle.art_attempt.specs.declared.attempts.Case.TheVariants.{NewLeaf}
 use Rattle.art_attempt.proofs.Stages.{is_finding}
 use Rattle.art_attempt.specs.Attempts.{Fits, IsFinding, IsRoom, deed_by, settled_of}
 use Rattle.art_attempt.specs.declared.attempts.Ending.TheVariants.{Restart}
 use Rattle.art_attempt.specs.declared.attempts.Attempt.{Attempt}
 use Rattle.art_attempt.specs.declared.attempts.Job.{Job}
 use Rattle.art_attempt.specs.declared.attempts.Stage.TheVariants.{Finding, Ended}
-use Rattle.art_attempt.specs.declared.rooms.Room.{Room}
+use Rattle.art_attempt.specs.declared.attempts.Room.{Room}
 use Rattle.art_find.proofs.Counting.{asks_look}
 use Rattle.art_find.proofs.Stages.{still_reading}
 use Rattle.art_machine.specs.Acting.{Answers, IsLook, goes_on, telling}

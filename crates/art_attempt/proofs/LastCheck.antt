@@ -2,8 +2,8 @@
 use Rattle.std.proofs.Common.{◌≡◌, ◌∙◌, ℕ, ◌≤◌, List, Option, inl, inr, refl, sym, ap, subst, arith, ⊎_elim}
 use Rattle.art_attempt.specs.Attempts.{IsFull, IsOverlap}
 use Rattle.art_attempt.specs.Trying.{IsCheckOf, StoodAtCheck, at_check}
-use Rattle.art_attempt.specs.declared.rooms.Room.{Room}
-use Rattle.art_cell.specs.declared.layouts.Pool.{Pool}
+use Rattle.art_attempt.specs.declared.attempts.Room.{Room}
+use Rattle.art_cell.specs.declared.cells.Pool.{Pool}
 use Rattle.art_epoch.specs.Taking.{GaveNone, NoneBefore, WasEmpty, WasFound, WasLost}
 use Rattle.art_find.proofs.FoundPlaces.{standing_grows}
 use Rattle.art_find.proofs.Keeping.{Grows}

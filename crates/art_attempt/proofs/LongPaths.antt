@@ -8,7 +8,7 @@ use Rattle.std.proofs.lemmas.List.FromFn.{length-map-range_with_len}
 use Rattle.std.proofs.lemmas.Option.{same_Some}
 use Rattle.art_cell.specs.Reads.{word_of, word_read}
 use Rattle.art_cell.specs.Words.{packed, prefix_len, prefix_of}
-use Rattle.art_cell.specs.declared.bodies.Body.{Body}
+use Rattle.art_cell.specs.declared.cells.Body.{Body}
 use Rattle.art_cell.specs.declared.cells.Cell.{Cell}
 use Rattle.art_cell.specs.declared.cells.Cell.TheVariants as cell
 use Rattle.art_cell.specs.declared.cells.Link.TheVariants.{Node as node}
@@ -21,8 +21,7 @@ use Rattle.art_find.specs.Ways.{count_in}
 use Rattle.art_find.specs.declared.findings.Above.{Above as CellAbove}
 use Rattle.art_find.specs.declared.findings.Position.{Position}
 use Rattle.art_find.specs.declared.read_sets.ReadSet.{ReadSet}
-use Rattle.art_find.specs.declared.rereadings.Rereading.{Rereading}
-use Rattle.art_attempt.proofs.LowerNames.{body_read, has_read}
+use Rattle.art_find.specs.declared.read_sets.Rereading.{Rereading}
 use Rattle.art_attempt.proofs.Validates.{left_less, lower_by}
 use Rattle.art_attempt.specs.Naming.{IsBelow}
 use Rattle.art_attempt.specs.Validate.{BelowFits, Fits, HasLeft, IsLong, IsRereading, IsShort, Knows, KnowsWords, MayRead, OthersStay, Until}
@@ -38,8 +37,9 @@ use Rattle.art_machine.specs.declared.actions.Action.{Action}
 use Rattle.art_machine.specs.declared.actions.Action.TheVariants as action
 use Rattle.art_machine.specs.declared.actions.Answer.{Answer}
 use Rattle.art_machine.specs.declared.actions.Answer.TheVariants.{Begun, Word, Checked, Upgraded, Done}
-use Rattle.art_plan.proofs.WholeCells.{above_is, has_above}
-use Rattle.art_plan.specs.declared.choose_remove.lowers.Lower.{Lower as LowerNode}
+use Rattle.art_plan.proofs.WholeCells.{above_is, body_read, has_above, has_read}
+use Rattle.art_plan.proofs.WordsWithin.{past_prefix}
+use Rattle.art_plan.specs.declared.choose_remove.Lower.{Lower as LowerNode}
 use Rattle.art_step.proofs.Shows.{failed_rest, prefix_on}
 use Rattle.art_step.specs.Knowledge.{CellAt, HoldsAll, IsShape}
 use Rattle.art_step.specs.Steps.Check as check
@@ -75,7 +75,7 @@ module _ (z : Sizes) (k : List ℕ) (t : Position) (o : CellsOf) (read_set : Rea
   path_length =
       let front = length-take-le over.0.depth k (above_is z k t read_set v knows.stands.standing here below.parent.is over.0 over.1).deep in
       let middle : length (prefix_of (word_of upper)) ≡ prefix_in (node_of read_set) =
-      length-map-range_with_len (packed (word_of upper) 2) 0 (prefix_len (word_of upper)) ∙ ap count_in ((has_read here (node_of read_set)).words 1) in
+      length-map-range_with_len (packed (word_of upper) 2) 0 (prefix_len (word_of upper)) ∙ ap count_in ((has_read here (node_of read_set)).words 1 (omega (arith, past_prefix here.layout))) in
       omega (arith, front, middle, length-append (take over.0.depth k ++ prefix_of (word_of upper)) (below.parent.byte ∷ []), length-append (take over.0.depth k) (prefix_of (word_of upper)))
 
   module _ (s : Cells) (shape : IsShape z s) (holds : HoldsAll v l.stamp s) (header : ℕ) (known : word_read lower 1 ≡ Some header) where

@@ -1,13 +1,11 @@
 -- The words of the node where the key stands name the lower node: there is such a node, it is another one, and where its path is noted.
-use Rattle.std.proofs.Common.{◌≡◌, ◌≢◌, ℕ, ◌<◌, ◌++◌, ◌∷◌, [], List, length, map, take, Option, Some, None, refl, sym, ap, ◌∙◌, subst, ⊎_elim, arith}
-use Rattle.std.specs.Prelude.{unwrap_or}
-use Rattle.std.proofs.Math.ListN.{get_or-map}
+use Rattle.std.proofs.Common.{◌≡◌, ◌≢◌, ℕ, ◌<◌, ◌++◌, ◌∷◌, [], List, length, take, Some, None, refl, sym, ap, ◌∙◌, subst, ⊎_elim, arith}
 use Rattle.std.proofs.lemmas.List.{length-append}
 use Rattle.std.proofs.lemmas.Option.{same_Some}
 use Rattle.art_cell.specs.Children.{child_word, link_of}
 use Rattle.art_cell.specs.Reads.{word_of}
 use Rattle.art_cell.specs.Words.{child_of, prefix_of}
-use Rattle.art_cell.specs.declared.bodies.Body.{Body}
+use Rattle.art_cell.specs.declared.cells.Body.{Body}
 use Rattle.art_cell.specs.declared.cells.Cell.{Cell}
 use Rattle.art_cell.specs.declared.cells.Cell.TheVariants as cell
 use Rattle.art_cell.specs.declared.cells.Link.TheVariants.{Node as node}
@@ -15,7 +13,7 @@ use Rattle.art_cell.specs.declared.cells.Node.{Node}
 use Rattle.art_plan.proofs.NamedChildren.{named_there}
 use Rattle.art_plan.proofs.AboveSites.{led_there}
 use Rattle.art_plan.proofs.SeenBodies.{seen_body, seen_child, seen_prefix, stands}
-use Rattle.art_plan.proofs.WholeCells.{IsWhole, above_is, has_above, node_whole}
+use Rattle.art_plan.proofs.WholeCells.{IsWhole, above_is, body_read, has_above, has_read, node_whole}
 use Rattle.art_plan.specs.ChooseInsert.Bodies.{HasWords, IsFilled}
 use Rattle.art_find.proofs.Stages.{noted_names}
 use Rattle.art_attempt.specs.Naming.{HasLower, IsLed, StillNames, IsParent, IsThird, WouldLead}
@@ -42,15 +40,6 @@ use Rattle.art_tree.proofs.Places.{one_path}
 use Rattle.art_tree.proofs.Renew.{deeper}
 use Rattle.art_tree.specs.Heaps.{Cells, heap_of}
 use Rattle.art_tree.specs.Tree.{StandsAt, down, path_past}
-
--- ---- the words of a cell as a body
-
--- the words that were read, and 0 where none was
-abbrev pub body_read : Node → List (Option ℕ) → Body
-body_read n reads = record { layout = n.layout; words = map (λ (o : Option ℕ). unwrap_or o 0) reads }
-
-pub has_read : (n : Node) (reads : List (Option ℕ)) → HasWords n reads (body_read n reads)
-has_read n reads = record { layout = refl; words = λ place. get_or-map (λ (o : Option ℕ). unwrap_or o 0) reads place None }
 
 -- ---- cells of one tree
 

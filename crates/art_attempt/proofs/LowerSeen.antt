@@ -1,10 +1,10 @@
 -- What a validation that ended unchanged gives a plan of a merge: the lower node was seen, and may take the place of the one above it.
 use Rattle.std.proofs.Common.{◌≡◌, ℕ, ◌<◌, ◌+◌, ◌++◌, ◌∷◌, [], List, length, take, true, Option, Some, refl, sym, ap, ◌∙◌, subst, arith, ⊎_elim}
 use Rattle.std.proofs.lemmas.List.{length-append, length-take-le}
-use Rattle.std.specs.Option.{option_map, unwrap_or}
-use Rattle.art_cell.specs.Reads.{Agrees, word_of}
+use Rattle.std.specs.Option.{option_map}
+use Rattle.art_cell.specs.Reads.{word_of}
 use Rattle.art_cell.specs.Words.{prefix_of}
-use Rattle.art_cell.specs.declared.bodies.Body.{Body}
+use Rattle.art_cell.specs.declared.cells.Body.{Body}
 use Rattle.art_cell.specs.declared.cells.Cell.{Cell}
 use Rattle.art_cell.specs.declared.cells.Cell.TheVariants as cell
 use Rattle.art_cell.specs.declared.cells.Link.TheVariants.{Node as node}
@@ -14,7 +14,7 @@ use Rattle.art_find.specs.Rereadings.{AreKnown}
 use Rattle.art_find.specs.declared.findings.Above.{Above as CellAbove}
 use Rattle.art_find.specs.declared.findings.Position.{Position}
 use Rattle.art_find.specs.declared.read_sets.ReadSet.{ReadSet}
-use Rattle.art_attempt.proofs.LowerNames.{body_read, has_over, has_read, is_third}
+use Rattle.art_attempt.proofs.LowerNames.{has_over, is_third}
 use Rattle.art_attempt.proofs.Validates.{over_stamp}
 use Rattle.art_attempt.specs.Naming.{IsBelow, IsThird, StillNames, WouldLead}
 use Rattle.art_attempt.specs.Validate.{BelowFits, CheckedSince, IsValidated, Knows, stamp_below}
@@ -22,12 +22,12 @@ use Rattle.art_attempt.specs.declared.validate.Cells.{Cells as CellsOf}
 use Rattle.art_attempt.specs.declared.validate.Role.TheVariants.{Above, Lower as lower_role}
 use Rattle.art_path.specs.declared.prefixes.Parts.{Parts}
 use Rattle.art_plan.proofs.SeenBodies.{seen_prefix}
-use Rattle.art_plan.proofs.WholeCells.{IsWhole, above_is}
+use Rattle.art_plan.proofs.WholeCells.{IsWhole, above_is, body_read, filled_agrees, has_read}
 use Rattle.art_plan.specs.ChooseInsert.Bodies.{HasWords, IsFilled}
 use Rattle.art_plan.specs.ChooseRemove.Plans.{ArePartsOf, IsAlsoAbove, MayNotMerge}
 use Rattle.art_plan.specs.ChooseRemove.Seen.{IsLowerSeen, StillKnown}
 use Rattle.art_plan.specs.Remove.Removals.{IsTooLong}
-use Rattle.art_plan.specs.declared.choose_remove.lowers.Lower.{Lower}
+use Rattle.art_plan.specs.declared.choose_remove.Lower.{Lower}
 use Rattle.art_step.specs.Knowledge.{CellAt}
 use Rattle.art_step.specs.Views.{note_of, size_of}
 use Rattle.art_step.specs.declared.views.Fact.TheVariants.{Starts}
@@ -35,10 +35,6 @@ use Rattle.art_step.specs.declared.views.Sizes.{Sizes}
 use Rattle.art_step.specs.declared.views.View.{View}
 use Rattle.art_tree.specs.Heaps.{Cells, heap_of}
 use Rattle.art_tree.specs.Tree.{StandsAt}
-
--- a body with the words that were read agrees with them
-words_agree : (n : Node) (reads : List (Option ℕ)) (body : Body) → HasWords n reads body → Agrees reads (word_of body)
-words_agree n reads body has place value is = has.words place ∙ ap (λ (o : Option ℕ). unwrap_or o 0) is
 
 module _ (z : Sizes) (k : List ℕ) (t : Position) (o : CellsOf) (read_set : ReadSet) (lower : List (Option ℕ)) (l : Lower) (is : o.lower ≡ Some l) (u v : View) (knows : Knows z k t o read_set lower u v)
     (done : IsValidated z k t o read_set lower u v) where
@@ -102,14 +98,15 @@ module _ (z : Sizes) (k : List ℕ) (t : Position) (o : CellsOf) (read_set : Rea
   not_long : (parts : Parts) → ArePartsOf read_set l lower parts → IsTooLong parts → ⊥
   not_long parts are long =
       let names = (below_at v knows).0 in
+      let still = lower_still in
       let over = has_over z k t l.node read_set u v names in
       let upper = body_read names.here (node_of read_set) in
       let has : HasWords names.here (node_of read_set) upper = has_read names.here (node_of read_set) in
       let body = body_read l.node lower in
       let body_has : HasWords l.node lower body = has_read l.node lower in
       let short = joins_short names.here over.0 upper body names.is over.1 has body_has in
-      let front = ap length (are.front (word_of upper) (words_agree names.here (node_of read_set) upper has)) in
-      let rest = ap length (are.rest (word_of body) (words_agree l.node lower body body_has)) in
+      let front = ap length (are.front (word_of upper) (filled_agrees z v t.stamp (node_of read_set) names.stands.standing.place.kept names.here names.is upper has)) in
+      let rest = ap length (are.rest (word_of body) (filled_agrees z v l.stamp lower still.kept l.node still.cell body body_has)) in
       omega (arith, short, front, rest, long)
 
   -- so it is not refused

@@ -7,7 +7,7 @@ use Rattle.art_attempt.proofs.Finds.{within_so}
 use Rattle.art_attempt.proofs.Looks.{no_fewer_named}
 use Rattle.art_attempt.specs.Attempts.{EndsSo, EndsWithin, IsNaming}
 use Rattle.art_attempt.specs.declared.attempts.Job.{Job}
-use Rattle.art_attempt.specs.declared.rooms.Room.{Room}
+use Rattle.art_attempt.specs.declared.attempts.Room.{Room}
 use Rattle.art_cell.specs.declared.cells.Node.{Node}
 use Rattle.art_find.specs.Descents.{IsReading}
 use Rattle.art_find.specs.declared.findings.Position.{Position}

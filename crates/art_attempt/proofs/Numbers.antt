@@ -10,10 +10,10 @@ use Rattle.art_attempt.specs.Cases.{ComesThere, IsCaseOf, demand_of}
 use Rattle.art_attempt.specs.Trying.{IsLater}
 use Rattle.art_attempt.specs.declared.attempts.Job.{Job}
 use Rattle.art_attempt.specs.declared.attempts.Job.TheVariants.{Insert, Remove}
-use Rattle.art_attempt.specs.declared.cases.Case.{Case}
-use Rattle.art_attempt.specs.declared.cases.Case.TheVariants.{NewLeaf, DropLeaf, Shrink, MergeLeaf, MergeNode, Torn}
-use Rattle.art_attempt.specs.declared.rooms.Room.{Room}
-use Rattle.art_cell.specs.declared.layouts.Pool.{Pool}
+use Rattle.art_attempt.specs.declared.attempts.Case.{Case}
+use Rattle.art_attempt.specs.declared.attempts.Case.TheVariants.{NewLeaf, DropLeaf, Shrink, MergeLeaf, MergeNode, Torn}
+use Rattle.art_attempt.specs.declared.attempts.Room.{Room}
+use Rattle.art_cell.specs.declared.cells.Pool.{Pool}
 use Rattle.art_epoch.specs.declared.stocks.Stock.{Stock}
 use Rattle.art_find.specs.Findings.{IsStanding}
 use Rattle.art_find.specs.declared.findings.Position.{Position}

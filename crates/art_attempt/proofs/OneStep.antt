@@ -6,7 +6,7 @@ use Rattle.art_attempt.specs.Attempts.{part_asks}
 use Rattle.art_attempt.specs.Cases.{cells_of}
 use Rattle.art_attempt.specs.declared.attempts.Part.{Part}
 use Rattle.art_attempt.specs.declared.attempts.Part.TheVariants.{Reserve, Reading, Naming, Validate}
-use Rattle.art_attempt.specs.declared.rooms.Room.{Room}
+use Rattle.art_attempt.specs.declared.attempts.Room.{Room}
 use Rattle.art_find.specs.declared.findings.Position.{Position}
 use Rattle.art_machine.specs.Acting.{Answers, steps_in}
 use Rattle.art_machine.specs.declared.actions.Action.{Action}

@@ -9,9 +9,9 @@ use Rattle.art_attempt.proofs.Steps.{cell_later, cell_step}
 use Rattle.art_attempt.proofs.Tries.{later_then}
 use Rattle.art_attempt.specs.Naming.{StillStands}
 use Rattle.art_attempt.specs.Trying.{HasSpent, IsLater}
-use Rattle.art_attempt.specs.declared.rooms.Room.{Room}
+use Rattle.art_attempt.specs.declared.attempts.Room.{Room}
 use Rattle.art_cell.specs.Reads.{word_read}
-use Rattle.art_cell.specs.declared.layouts.Layout.{Layout}
+use Rattle.art_cell.specs.declared.cells.Layout.{Layout}
 use Rattle.art_attempt.proofs.Chosen.{loss_known}
 use Rattle.art_attempt.proofs.CaseCells.{reading_so}
 use Rattle.art_attempt.specs.Attempts.{EndsWithin, IsReadingOn, reading_asks, reading_most}
@@ -24,9 +24,9 @@ use Rattle.art_find.specs.ReadSets.{above_of, node_of}
 use Rattle.art_find.specs.Kept.{StaysRead}
 use Rattle.art_find.specs.Rereadings.{RereadingFits}
 use Rattle.art_find.specs.declared.read_sets.ReadSet.{ReadSet}
-use Rattle.art_find.specs.declared.rereadings.Rereading.{Rereading}
+use Rattle.art_find.specs.declared.read_sets.Rereading.{Rereading}
 use Rattle.art_plan.specs.ChooseRemove.Losses.{loss_at}
-use Rattle.art_plan.specs.declared.choose_remove.losses.Loss.TheVariants as loss
+use Rattle.art_plan.specs.declared.choose_remove.Loss.TheVariants as loss
 use Rattle.art_machine.specs.Acting.{Answers, telling, word_in}
 use Rattle.art_machine.specs.declared.actions.Action.{Action}
 use Rattle.art_machine.specs.declared.actions.Answer.{Answer}

@@ -5,7 +5,7 @@ use Rattle.std.proofs.lemmas.Option.{cond_some}
 use Rattle.art_machine.specs.declared.actions.Action.{Action}
 use Rattle.art_machine.specs.declared.actions.Action.TheVariants.{Read}
 use Rattle.art_find.specs.Rereadings.{reads_next}
-use Rattle.art_find.specs.declared.rereadings.Rereading.{Rereading}
+use Rattle.art_find.specs.declared.read_sets.Rereading.{Rereading}
 use Rattle.art_step.specs.Views.{size_of}
 use Rattle.art_step.specs.declared.views.Stamp.{Stamp}
 

@@ -9,10 +9,10 @@ use Rattle.art_cell.specs.declared.cells.Link.{Link}
 use Rattle.art_cell.specs.declared.cells.Link.TheVariants.{Leaf as leaf, Node as node}
 use Rattle.art_cell.specs.declared.cells.Node.{Node}
 use Rattle.art_cell.specs.Leaves.{leaf_word}
-use Rattle.art_cell.specs.declared.layouts.Layout.{Layout}
-use Rattle.art_cell.specs.declared.layouts.Layout.TheVariants.{Node4, Node16, Node48, Node256}
-use Rattle.art_cell.specs.declared.layouts.Pool.{Pool}
-use Rattle.art_cell.specs.declared.layouts.Pool.TheVariants.{Leaves}
+use Rattle.art_cell.specs.declared.cells.Layout.{Layout}
+use Rattle.art_cell.specs.declared.cells.Layout.TheVariants.{Node4, Node16, Node48, Node256}
+use Rattle.art_cell.specs.declared.cells.Pool.{Pool}
+use Rattle.art_cell.specs.declared.cells.Pool.TheVariants.{Leaves}
 use Rattle.art_plan.specs.ArtCommit.CommitLaws.{HasNode}
 use Rattle.art_epoch.proofs.Searching.{around_inside, few_looks}
 use Rattle.art_epoch.specs.Taking.{NoneBefore, OnlyTakes, SearchFits, Takes, TookLowest, TookNone}
@@ -20,9 +20,9 @@ use Rattle.art_epoch.specs.Taking as taking
 use Rattle.art_machine.specs.declared.actions.Action.{Action}
 use Rattle.art_machine.specs.declared.actions.Answer.{Answer}
 use Rattle.art_machine.specs.declared.actions.Action.TheVariants.{ClearBit, WriteLeaf}
-use Rattle.art_epoch.specs.declared.taking.Search.{Search}
-use Rattle.art_epoch.specs.declared.taking.Search.TheVariants.{Looking, Clearing, Took}
-use Rattle.art_epoch.specs.declared.taking.Taking.{Taking}
+use Rattle.art_epoch.specs.declared.stocks.Search.{Search}
+use Rattle.art_epoch.specs.declared.stocks.Search.TheVariants.{Looking, Clearing, Took}
+use Rattle.art_epoch.specs.declared.stocks.Taking.{Taking}
 use Rattle.art_epoch.proofs.Stocked.{stock_same, stock_took_leaf, stock_took_node, taken_node}
 use Rattle.art_epoch.specs.Stocks.{HasStock, IsIn, node_in, with_leaf, with_node, words_written}
 use Rattle.art_epoch.specs.declared.stocks.Stock.{Stock}

@@ -1,8 +1,8 @@
 -- In a table of the sizes that there may be, few words are looked at for the numbers that a change wants.
 use Rattle.std.proofs.Common.{ℕ, ◌≤◌, ◌^◌, Option, Some, None, arith}
 use Rattle.art_attempt.specs.Trying.{IsLimited}
-use Rattle.art_cell.specs.declared.layouts.Layout.{Layout}
-use Rattle.art_cell.specs.declared.layouts.Layout.TheVariants.{Node4, Node16, Node48, Node256}
+use Rattle.art_cell.specs.declared.cells.Layout.{Layout}
+use Rattle.art_cell.specs.declared.cells.Layout.TheVariants.{Node4, Node16, Node48, Node256}
 use Rattle.art_attempt.specs.Reserve.{few_steps, node_looks}
 use Rattle.art_attempt.specs.declared.reserve.Demand.{Demand}
 use Rattle.art_step.specs.WordPlaces.{free_words}

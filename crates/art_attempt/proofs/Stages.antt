@@ -1,6 +1,6 @@
 -- What an attempt that fits knows at the stage where it stands; what stays of an attempt stays on.
 use Rattle.std.proofs.Common.{◌≡◌, ◌∙◌, Option, Some, ap, sym, subst}
-use Rattle.art_attempt.specs.declared.rooms.Room.{Room}
+use Rattle.art_attempt.specs.declared.attempts.Room.{Room}
 use Rattle.art_attempt.specs.Attempts.{Fits, HasMade, IsFinding, IsRoom, IsSameTry, PartFits, StageFits, asks, asks_at, deed_at, deed_by, finding_asks, found_in, part_asks, settled_by}
 use Rattle.art_attempt.specs.Parts.{PartKnows}
 use Rattle.art_attempt.specs.declared.attempts.Attempt.{Attempt}

@@ -18,7 +18,7 @@ use Rattle.art_find.specs.Runs.{HasReadOnly}
 use Rattle.art_find.specs.declared.findings.Above.{Above as CellAbove}
 use Rattle.art_find.specs.declared.findings.Position.{Position}
 use Rattle.art_find.specs.declared.read_sets.ReadSet.{ReadSet}
-use Rattle.art_find.specs.declared.rereadings.Rereading.{Rereading}
+use Rattle.art_find.specs.declared.read_sets.Rereading.{Rereading}
 use Rattle.art_attempt.proofs.LowerBegins.{check_allowed}
 use Rattle.art_attempt.proofs.RereadsGoOn.{more_reads}
 use Rattle.art_attempt.proofs.Standing.{above_after, below_grows, here_after, leads_grow, names_on, passed_found, passed_just, passed_later, passed_stays, stands_grows, under_over}
@@ -39,7 +39,7 @@ use Rattle.art_machine.specs.declared.actions.Action.TheVariants as action
 use Rattle.art_machine.specs.declared.actions.Answer.{Answer}
 use Rattle.art_machine.specs.declared.actions.Answer.TheVariants.{Begun, Word, Checked, Upgraded, Done}
 use Rattle.art_plan.specs.ChooseInsert.Seen.{WasVouched}
-use Rattle.art_plan.specs.declared.choose_remove.lowers.Lower.{Lower as LowerNode}
+use Rattle.art_plan.specs.declared.choose_remove.Lower.{Lower as LowerNode}
 use Rattle.art_step.proofs.Shows.{failed_rest, passed_rest}
 use Rattle.art_step.specs.Shows.{HasStamp, OnlyReads}
 use Rattle.art_step.specs.Steps.Check as check

@@ -14,13 +14,13 @@ use Rattle.art_attempt.specs.declared.attempts.Part.{Part}
 use Rattle.art_attempt.specs.declared.attempts.Part.TheVariants as part
 use Rattle.art_attempt.specs.declared.attempts.Stage.{Stage}
 use Rattle.art_attempt.specs.declared.attempts.Stage.TheVariants as stage
-use Rattle.art_attempt.specs.declared.cases.Case.{Case}
-use Rattle.art_attempt.specs.declared.cases.Case.TheVariants.{NewLeaf, Shrink}
-use Rattle.art_attempt.specs.declared.rooms.Room.{Room}
+use Rattle.art_attempt.specs.declared.attempts.Case.{Case}
+use Rattle.art_attempt.specs.declared.attempts.Case.TheVariants.{NewLeaf, Shrink}
+use Rattle.art_attempt.specs.declared.attempts.Room.{Room}
 use Rattle.art_cell.specs.declared.cells.Cell.{Cell as CellOf}
 use Rattle.art_cell.specs.declared.Link.TheVariants.{Node as node}
 use Rattle.art_cell.specs.declared.Node.{Node as NodeOf}
-use Rattle.art_cell.specs.declared.layouts.Pool.{Pool}
+use Rattle.art_cell.specs.declared.cells.Pool.{Pool}
 use Rattle.art_find.specs.Descents as descents
 use Rattle.art_find.specs.Findings.{FindingFits, IsStanding, position_at}
 use Rattle.art_find.specs.ReadSets.{node_of}
@@ -28,9 +28,9 @@ use Rattle.art_find.specs.Rereadings.{RereadingFits, reads_next}
 use Rattle.art_find.specs.Verdicts.{value_of}
 use Rattle.art_find.specs.declared.findings.Finding.{Finding}
 use Rattle.art_find.specs.declared.findings.Position.{Position}
-use Rattle.art_find.specs.declared.rereadings.Rereading.{Rereading}
-use Rattle.art_find.specs.declared.verdicts.Verdict.{Verdict}
-use Rattle.art_find.specs.declared.verdicts.Verdict.TheVariants as verdict
+use Rattle.art_find.specs.declared.read_sets.Rereading.{Rereading}
+use Rattle.art_find.specs.declared.descents.Verdict.{Verdict}
+use Rattle.art_find.specs.declared.descents.Verdict.TheVariants as verdict
 use Rattle.art_epoch.specs.Stocks.{HasStock}
 use Rattle.art_attempt.specs.Naming as naming
 use Rattle.art_attempt.specs.Naming.{StillStands}
@@ -52,9 +52,9 @@ use Rattle.art_model.specs.declared.commands.Answer.TheVariants as reply
 use Rattle.art_plan.specs.Changes.{IsPlanned, target_at, unlinked}
 use Rattle.art_plan.specs.ChooseInsert.Plans.{Comes, LocksOnly}
 use Rattle.art_plan.specs.ChooseRemove.Losses.{loss_at}
-use Rattle.art_plan.specs.declared.choose_remove.losses.Loss.TheVariants as loss
+use Rattle.art_plan.specs.declared.choose_remove.Loss.TheVariants as loss
 use Rattle.art_plan.specs.declared.changes.Target.{Target}
-use Rattle.art_plan.specs.declared.insert.leaves.NewLeaf.{NewLeaf as Row}
+use Rattle.art_plan.specs.declared.insert.NewLeaf.{NewLeaf as Row}
 use Rattle.art_step.specs.Events.{MakesEvent}
 use Rattle.art_step.specs.Shows.{rest_of}
 use Rattle.art_step.specs.Steps.Check as check

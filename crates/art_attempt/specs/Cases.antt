@@ -3,16 +3,16 @@ use Rattle.std.specs.Prelude.{◌≡◌, ◌⊎◌, ℕ, List, [], Option, Some,
 use Rattle.art_attempt.specs.Trying.{IsCheckOf, StoodAtCheck, WasChecked}
 use Rattle.art_attempt.specs.declared.attempts.Job.{Job}
 use Rattle.art_attempt.specs.declared.attempts.Job.TheVariants.{Insert, Remove}
-use Rattle.art_attempt.specs.declared.cases.Case.{Case}
-use Rattle.art_attempt.specs.declared.cases.Case.TheVariants.{NewLeaf, DropLeaf, Shrink, MergeLeaf, MergeNode, Torn}
-use Rattle.art_attempt.specs.declared.rooms.Room.{Room}
+use Rattle.art_attempt.specs.declared.attempts.Case.{Case}
+use Rattle.art_attempt.specs.declared.attempts.Case.TheVariants.{NewLeaf, DropLeaf, Shrink, MergeLeaf, MergeNode, Torn}
+use Rattle.art_attempt.specs.declared.attempts.Room.{Room}
 use Rattle.art_cell.specs.declared.Link.{Link}
 use Rattle.art_cell.specs.declared.Link.TheVariants.{Leaf as leaf, Node as node}
-use Rattle.art_cell.specs.declared.layouts.Layout.{Layout}
+use Rattle.art_cell.specs.declared.cells.Layout.{Layout}
 use Rattle.art_find.specs.ReadSets.{node_of}
 use Rattle.art_find.specs.declared.findings.Position.{Position}
 use Rattle.art_find.specs.declared.read_sets.ReadSet.{ReadSet}
-use Rattle.art_find.specs.declared.verdicts.Verdict.{Verdict}
+use Rattle.art_find.specs.declared.descents.Verdict.{Verdict}
 use Rattle.art_epoch.specs.Stocks.{node_in}
 use Rattle.art_epoch.specs.declared.stocks.Stock.{Stock}
 use Rattle.art_attempt.specs.Reserve.{HasNone}
@@ -29,9 +29,9 @@ use Rattle.art_plan.specs.ChooseRemove.Plans.{HasFound, HasOther, IsAnyAt, IsEit
 use Rattle.art_plan.specs.ChooseRemove.Seen.{IsSeen}
 use Rattle.art_plan.specs.Insert.Puts.{insert_effects, inserted}
 use Rattle.art_plan.specs.Remove.Removals.{remove_effects}
-use Rattle.art_plan.specs.declared.choose_remove.losses.Loss.TheVariants as loss
-use Rattle.art_plan.specs.declared.insert.leaves.NewLeaf.{NewLeaf as Row}
-use Rattle.art_plan.specs.declared.remove.leaves.OldLeaf.{OldLeaf}
+use Rattle.art_plan.specs.declared.choose_remove.Loss.TheVariants as loss
+use Rattle.art_plan.specs.declared.insert.NewLeaf.{NewLeaf as Row}
+use Rattle.art_plan.specs.declared.remove.OldLeaf.{OldLeaf}
 use Rattle.art_step.specs.Views.{pool_of_layout}
 use Rattle.art_step.specs.declared.deeds.Act.TheVariants as act
 use Rattle.art_step.specs.declared.deeds.Deed.{Deed}

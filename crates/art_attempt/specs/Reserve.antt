@@ -1,13 +1,13 @@
 -- What a reserve knows between two of its steps.
 use Rattle.std.specs.Prelude.{◌≡◌, ◌⊎◌, ℕ, ◌+◌, ◌*◌, ◌<◌, ◌≤◌, List, true, false, Option, Some, None}
 use Rattle.std.specs.Option.{option_and_then}
-use Rattle.art_cell.specs.declared.layouts.Layout.{Layout}
-use Rattle.art_cell.specs.declared.layouts.Pool.{Pool}
-use Rattle.art_cell.specs.declared.layouts.Pool.TheVariants.{Leaves}
+use Rattle.art_cell.specs.declared.cells.Layout.{Layout}
+use Rattle.art_cell.specs.declared.cells.Pool.{Pool}
+use Rattle.art_cell.specs.declared.cells.Pool.TheVariants.{Leaves}
 use Rattle.art_epoch.specs.Taking.{MadeFew, NoneBefore, OnlyTakes}
 use Rattle.art_epoch.specs.Taking as taking
 use Rattle.art_machine.specs.declared.actions.Action.{Action}
-use Rattle.art_epoch.specs.declared.taking.Taking.{Taking}
+use Rattle.art_epoch.specs.declared.stocks.Taking.{Taking}
 use Rattle.art_epoch.specs.Stocks.{HasStock, node_in}
 use Rattle.art_epoch.specs.declared.stocks.Stock.{Stock}
 use Rattle.art_attempt.specs.declared.reserve.Reserved.{Reserved}

@@ -1,7 +1,7 @@
 -- What stands beside an attempt of a write.
 use Rattle.std.specs.Prelude.{ℕ, Option}
 use Rattle.std.specs.Option.{option_and_then, unwrap_or}
-use Rattle.art_cell.specs.declared.layouts.Layout.{Layout}
+use Rattle.art_cell.specs.declared.cells.Layout.{Layout}
 use Rattle.art_epoch.specs.Stocks.{node_in, without_all}
 use Rattle.art_epoch.specs.declared.stocks.Stock.{Stock}
 use Rattle.art_make.specs.Apply.{linked}

@@ -10,7 +10,7 @@ use Rattle.art_find.specs.Ways.{count_in}
 use Rattle.art_find.specs.declared.findings.Above.{Above as CellAbove}
 use Rattle.art_find.specs.declared.findings.Position.{Position}
 use Rattle.art_find.specs.declared.read_sets.ReadSet.{ReadSet}
-use Rattle.art_find.specs.declared.rereadings.Rereading.{Rereading}
+use Rattle.art_find.specs.declared.read_sets.Rereading.{Rereading}
 use Rattle.art_attempt.specs.Naming.{IsBelow, KnowsHere, StillNames, StillStands, WouldLead}
 use Rattle.art_attempt.specs.declared.validate.Cells.{Cells}
 use Rattle.art_attempt.specs.declared.validate.Role.{Role}
@@ -23,7 +23,7 @@ use Rattle.art_machine.specs.Acting.{passed}
 use Rattle.art_machine.specs.declared.actions.Action.{Action}
 use Rattle.art_machine.specs.declared.actions.Action.TheVariants as action
 use Rattle.art_machine.specs.declared.actions.Answer.{Answer}
-use Rattle.art_plan.specs.declared.choose_remove.lowers.Lower.{Lower as LowerNode}
+use Rattle.art_plan.specs.declared.choose_remove.Lower.{Lower as LowerNode}
 use Rattle.art_step.specs.Steps.Check as check
 use Rattle.art_step.specs.Views.{Member, size_of}
 use Rattle.art_step.specs.declared.views.Sizes.{Sizes}

@@ -1,23 +1,28 @@
-//! One attempt of a write, step by step.
+//! What a write changes, what it keeps, and one attempt of it, step by step.
 ghost use Rattle.std.specs.Prelude.{◌≡◌, ◌≢◌, ℕ, ◌+◌, ◌-◌, ◌<◌, ◌≤◌, length, Some, None, true};
 ghost use Rattle.art_attempt.specs.Asking.{Answers};
-ghost use Rattle.art_attempt.specs.Attempts.{Fits, IsOverlapBy, IsRestartBy, IsRoom, IsSameTry, asks, deed_at, ended_at, found_at, free_at};
-ghost use Rattle.art_attempt.specs.Attempts.{is_free, steps_left, value_found};
-ghost use Rattle.art_attempt.specs.Trying.{StillTries};
+ghost use Rattle.art_attempt.specs.Attempts.{Fits, IsOverlapBy, IsRestartBy, IsRoom, IsSameTry, asks, deed_at, ended_at, found_at, free_at, is_free, steps_left, value_found};
+ghost use Rattle.art_attempt.specs.Trying.{StillTries, IsKey};
 ghost use Rattle.art_attempt.specs.declared.attempts.Ending.TheVariants.{Restart as anew, Overlaps as overlaps};
-ghost use Rattle.art_epoch.specs.Stocks.{HasStock};
+ghost use Rattle.art_epoch.specs.Stocks.{HasStock, first_hints, nothing};
 ghost use Rattle.art_find.specs.Findings.{position_at};
 ghost use Rattle.art_machine.specs.Acting.{steps_in};
 ghost use Rattle.art_machine.specs.declared.actions.Action.{Action as ActionOf};
 ghost use Rattle.art_step.specs.declared.views.Sizes.{Sizes};
 ghost use Rattle.art_step.specs.declared.views.View.{View};
+ghost use Rattle.art_attempt.specs.Cases.{cells_of, demand_of};
+ghost use Rattle.art_attempt.specs.Rooms.{number_for, spent_by};
 
-use crate::{Case, Naming, Reserve, Room, Validate};
-use art_cell::{Cell, Node, Pool};
-use art_find::{Finding, Position, Rereading};
-use art_machine::{Action, Answer};
+use crate::{Cells, Demand, Naming, Reserve, Validate};
+use arrayvec::ArrayVec;
+use art_cell::{Body, Cell, Layout, Node, Pool, Reads, Writes};
+use art_epoch::Stock;
+use art_find::{Finding, Position, ReadSet, Rereading, Verdict};
+use art_key::{Bound, Key};
+use art_machine::{Action, Answer, Effects};
 use art_make::Apply;
-use art_step::EpochSteps;
+use art_plan::{Bodies, Change, Lower, NewLeaf, OldLeaf, needed};
+use art_step::{Deed, EpochSteps, Sizes};
 
 /// What a write does.
 #[derive(Clone, Copy)]
@@ -95,7 +100,7 @@ impl Attempt {
     ghost use Rattle.std.specs.Prelude.{IfSome};
     ghost use Rattle.art_attempt.specs.Asking.{IsAllowed};
     ghost use Rattle.art_attempt.specs.Attempts.{EndsSo};
-    ghost use Rattle.art_attempt.specs.declared.rooms.Room.{Room as RoomOf};
+    ghost use Rattle.art_attempt.specs.declared.attempts.Room.{Room as RoomOf};
 
     /// At its beginning.
     pub fn new(job: Job) -> Attempt
@@ -231,5 +236,185 @@ fn free_at(stage: &Stage) -> bool
     match stage {
         Stage::Apply(apply) => apply.is_begun(),
         _ => true,
+    }
+}
+
+/// What a write changes.
+#[derive(Clone, Copy)]
+pub enum Case {
+    /// A leaf comes, in the way that its place tells: at a free entry, beside another leaf, where a prefix differs, or in a larger node.
+    NewLeaf,
+    /// The leaf goes, and the cell that names it stays.
+    DropLeaf,
+    /// The leaf goes, and its node gives way to one of this layout.
+    Shrink(Layout),
+    /// The leaf goes, and its node gives way to its other child, this leaf.
+    MergeLeaf(u32),
+    /// The leaf goes, and its node gives way to its other child, this node.
+    MergeNode(Lower),
+    /// The words that were read of the leaf's node are those of no node, which its check is about to tell.
+    Torn,
+}
+
+impl Case {
+    /// What is wanted in hand, where the key stands so.
+    pub(crate) fn demand(self, sizes: Sizes, verdict: &Verdict) -> Demand
+        ensures { result ≡ demand_of sizes self verdict.now }
+    {
+        let (leaf, node) = match self {
+            Case::NewLeaf => (true, needed(verdict).node),
+            Case::Shrink(layout) => (false, Some(layout)),
+            Case::DropLeaf | Case::MergeLeaf(_) | Case::MergeNode(_) | Case::Torn => (false, None),
+        };
+        Demand { leaf, node, sizes }
+    }
+
+    /// Which cells are validated beside the one where the key stands.
+    pub(crate) fn cells(self, verdict: &Verdict) -> Cells
+        ensures { result ≡ cells_of self verdict.now }
+    {
+        let (above, lower) = match self {
+            Case::NewLeaf => (needed(verdict).above, None),
+            Case::Shrink(_) | Case::MergeLeaf(_) => (true, None),
+            Case::MergeNode(lower) => (true, Some(lower)),
+            Case::DropLeaf | Case::Torn => (false, None),
+        };
+        Cells { above, lower }
+    }
+}
+
+/// What stands beside an attempt of a write: the row, the leaf that goes, the numbers in hand, the words that were read, and the change
+/// that is planned of them. It is large, and never copied.
+#[derive(Drop)]
+pub struct Room {
+    /// The row that comes, and its leaf has its number once a change is planned; of a row that goes the key, with the value 0.
+    pub row: NewLeaf,
+    /// The leaf that goes, once it is found.
+    pub gone: OldLeaf,
+    pub sizes: Sizes,
+    pub stock: Stock,
+    pub read_set: ReadSet,
+    /// The words that were read of a lower node.
+    pub lower: Reads,
+    pub bodies: Bodies,
+    /// And the body of that node.
+    pub lower_body: Body,
+    pub change: Change,
+}
+
+impl Room {
+    /// Of the pass `own` of a table with so many numbers: no row comes yet, and nothing is in hand.
+    pub fn new(own: u32, sizes: &Sizes) -> Room
+        ensures sizes { result.sizes ≡ sizes.now }
+        ensures stock { result.stock ≡ nothing (first_hints sizes.now own) }
+    {
+        Room {
+            row: no_row(),
+            gone: no_leaf(),
+            sizes: *sizes,
+            stock: Stock::new(own, sizes),
+            read_set: ReadSet::new(),
+            lower: Reads::new(),
+            bodies: Bodies::new(),
+            lower_body: no_body(),
+            change: no_change(),
+        }
+    }
+
+    /// The write is of this row.
+    pub fn set(&mut self, key: &Key, value: u64)
+        ensures key { IsKey key.now.items }
+        ensures row { self.new ≡ record self.old { row = record { number = self.old.row.number; key = key.now; value = value } } }
+    {
+        self.row.key = copied(key.as_slice());
+        self.row.value = value;
+    }
+
+    /// The leaf with the row's key was found, with this number and this value.
+    pub(crate) fn found(&mut self, number: u32, value: u64)
+        requires { length self.old.row.key.items ≤ 64 }
+        ensures { self.new ≡ record self.old { gone = record { number = number; key = self.old.row.key; value = value } } }
+    {
+        self.gone = OldLeaf {
+            number,
+            key: copied(self.row.key.as_slice()),
+            value,
+        };
+    }
+
+    /// The number of a node of the layout, and 0 where none is in hand or none is needed.
+    pub(crate) fn number_for(&self, layout: Option<Layout>) -> u32
+        ensures { result ≡ number_for self.now.stock layout }
+    {
+        let Some(layout) = layout else {
+            return 0;
+        };
+        self.stock.node(layout).unwrap_or(0)
+    }
+
+    /// The numbers that the change linked have left the hand.
+    pub(crate) fn spend(&mut self)
+        ensures { self.new ≡ record self.old { stock = spent_by self.old.change self.old.stock } }
+    {
+        match self.change.effects.leaf {
+            Some(_) => self.stock.spend_leaf(),
+            None => {}
+        }
+        match self.change.made() {
+            Some(node) => self.stock.spend_node(node.layout),
+            None => {}
+        }
+        match self.change.copied() {
+            Some(node) => self.stock.spend_node(node.layout),
+            None => {}
+        }
+    }
+}
+
+/// The bytes as a key.
+fn copied(bytes: &[u8]) -> Key
+    requires { length bytes.now ≤ 64 }
+    ensures key { IsKey bytes.now }
+    ensures same { result.items ≡ bytes.now }
+{
+    Key::try_from(bytes).unwrap()
+}
+
+/// No row.
+fn no_row() -> NewLeaf {
+    NewLeaf {
+        number: 0,
+        key: Key::new(),
+        value: 0,
+    }
+}
+
+/// No leaf.
+fn no_leaf() -> OldLeaf {
+    OldLeaf {
+        number: 0,
+        key: Key::new(),
+        value: 0,
+    }
+}
+
+/// A node of no words.
+fn no_body() -> Body {
+    Body {
+        layout: Layout::Node4,
+        words: [0; 266],
+    }
+}
+
+/// No change.
+fn no_change() -> Change {
+    Change {
+        targets: ArrayVec::new(),
+        puts: ArrayVec::new(),
+        writes: Writes::new(),
+        node: None,
+        body: no_body(),
+        copy: None,
+        effects: Effects::telling(Deed::Look(Key::new(), Bound::End, None)),
     }
 }

@@ -4,8 +4,8 @@ ghost use Rattle.art_attempt.specs.Attempts.{EndsWithin, Fits, HasMade, IsGivenU
 ghost use Rattle.art_attempt.specs.Attempts.{apply_left, ended_at, ended_so, given_up, is_free, steps_left, written};
 ghost use Rattle.art_attempt.specs.declared.attempts.Ending.TheVariants.{Restart as anew, Overlaps as overlaps};
 ghost use Rattle.art_attempt.specs.declared.attempts.Stage.TheVariants as stages;
-ghost use Rattle.art_attempt.specs.declared.cases.Case.{Case as CaseOf};
-ghost use Rattle.art_attempt.specs.declared.cases.Case.TheVariants as cases;
+ghost use Rattle.art_attempt.specs.declared.attempts.Case.{Case as CaseOf};
+ghost use Rattle.art_attempt.specs.declared.attempts.Case.TheVariants as cases;
 ghost use Rattle.art_attempt.specs.declared.validate.Validate.TheVariants.{Ended as validated};
 ghost use Rattle.art_attempt.specs.declared.validate.Validated.TheVariants.{Unchanged as unchanged};
 ghost use Rattle.art_find.specs.declared.findings.Position.{Position as PositionOf};

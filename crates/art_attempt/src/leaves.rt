@@ -12,7 +12,7 @@ ghost use Rattle.art_cell.specs.declared.cells.Link.TheVariants.{Node as node_li
 ghost use Rattle.art_cell.specs.declared.cells.Node.{Node as NodeOf};
 ghost use Rattle.art_find.specs.Findings.{IsStanding};
 ghost use Rattle.art_find.specs.declared.findings.Position.{Position as PositionOf};
-ghost use Rattle.art_find.specs.declared.rereadings.Rereading.{Rereading as RereadingOf};
+ghost use Rattle.art_find.specs.declared.read_sets.Rereading.{Rereading as RereadingOf};
 ghost use Rattle.art_attempt.specs.Naming.{KnowsHere, ended_at as named_at};
 ghost use Rattle.art_attempt.specs.declared.naming.Named.TheVariants.{Changed as changed_name};
 ghost use Rattle.art_attempt.specs.declared.naming.Naming.{Naming as NamingOf};
@@ -20,7 +20,7 @@ ghost use Rattle.art_machine.specs.Acting.{Answers as ActionAnswers, goes_on, te
 ghost use Rattle.art_machine.specs.declared.actions.Action.{Action as ActionOf};
 ghost use Rattle.art_plan.specs.ChooseRemove.Losses.{loss_at};
 ghost use Rattle.art_plan.specs.ChooseRemove.Others.{NamesChild};
-ghost use Rattle.art_plan.specs.declared.choose_remove.losses.Loss.TheVariants as losses;
+ghost use Rattle.art_plan.specs.declared.choose_remove.Loss.TheVariants as losses;
 ghost use Rattle.art_step.specs.Views.{size_of};
 ghost use Rattle.art_step.specs.declared.views.Sizes.{Sizes};
 ghost use Rattle.art_step.specs.declared.views.View.{View};
@@ -35,7 +35,7 @@ use art_step::EpochSteps;
 impl Attempt {
     ghost use Rattle.std.specs.Prelude.{IfSome};
     ghost use Rattle.art_attempt.specs.Asking.{IsAllowed};
-    ghost use Rattle.art_attempt.specs.declared.rooms.Room.{Room as RoomOf};
+    ghost use Rattle.art_attempt.specs.declared.attempts.Room.{Room as RoomOf};
     ghost use Rattle.art_step.specs.declared.deeds.Deed.{Deed};
 
     /// What comes next where the node is read on.

@@ -108,23 +108,18 @@
 #![tactic(auto)]
 
 mod attempts;
-mod cases;
 mod changes;
 mod driver;
 mod leaves;
 mod naming;
-mod parts;
 mod places;
 mod reserve;
-mod rooms;
 mod supplies;
 mod validate;
 
 pub use art_plan;
-pub use attempts::{Attempt, Ending, Job, Part, Stage};
-pub use cases::Case;
+pub use attempts::{Attempt, Case, Ending, Job, Part, Room, Stage};
 pub use driver::make;
 pub use naming::{Named, Naming};
 pub use reserve::{Demand, Reserve, Reserved};
-pub use rooms::Room;
 pub use validate::{Cells, Role, Validate, Validated};

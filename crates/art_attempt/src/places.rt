@@ -6,7 +6,7 @@ ghost use Rattle.art_attempt.specs.declared.attempts.Ending.TheVariants.{Restart
 ghost use Rattle.art_attempt.specs.declared.attempts.Job.TheVariants as jobs;
 ghost use Rattle.art_attempt.specs.declared.attempts.Stage.TheVariants as stages;
 ghost use Rattle.art_find.specs.Findings.{position_at};
-ghost use Rattle.art_find.specs.declared.verdicts.Verdict.TheVariants as verdicts;
+ghost use Rattle.art_find.specs.declared.descents.Verdict.TheVariants as verdicts;
 ghost use Rattle.art_machine.specs.Acting.{Answers as ActionAnswers, goes_on, passed, telling};
 ghost use Rattle.art_machine.specs.declared.actions.Action.{Action as ActionOf};
 ghost use Rattle.art_step.specs.declared.views.Sizes.{Sizes};
@@ -20,7 +20,7 @@ use art_step::EpochSteps;
 impl Attempt {
     ghost use Rattle.std.specs.Prelude.{IfSome};
     ghost use Rattle.art_attempt.specs.Asking.{IsAllowed};
-    ghost use Rattle.art_attempt.specs.declared.rooms.Room.{Room as RoomOf};
+    ghost use Rattle.art_attempt.specs.declared.attempts.Room.{Room as RoomOf};
     ghost use Rattle.art_find.specs.declared.findings.Finding.{Finding as FindingOf};
 
     /// What comes next on the way to the place of the key, and its check.

@@ -1,7 +1,7 @@
 //! Numbers come into the hand, and the leaf gets its words.
 ghost use Rattle.std.specs.Prelude.{◌≡◌, ◌⊎◌, ℕ, ◌<◌, ◌≤◌, List, length, Some, None, true};
 ghost use Rattle.art_cell.specs.Children.{number_of};
-ghost use Rattle.art_cell.specs.declared.layouts.Pool.TheVariants.{Leaves as leaves};
+ghost use Rattle.art_cell.specs.declared.cells.Pool.TheVariants.{Leaves as leaves};
 ghost use Rattle.art_epoch.specs.Taking.{Fits as TakingFits};
 ghost use Rattle.art_epoch.specs.Stocks.{HasStock, node_in};
 ghost use Rattle.art_machine.specs.Acting.{Answers, IsAllowed};

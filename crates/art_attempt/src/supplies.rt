@@ -1,13 +1,13 @@
-//! How an attempt brings numbers into the hand, and validates the cells that it writes.
+//! The parts of an attempt where its key stands: numbers come into the hand, and the cells that it writes are validated.
 ghost use Rattle.std.specs.Prelude.{◌≡◌, ◌≢◌, ◌+◌, ◌<◌, ◌≤◌, length, None, Some, true, false};
-ghost use Rattle.art_attempt.specs.Attempts.{EndsWithin, Fits, HasSupplies, IsKnown, IsRoom, IsSameTry, IsValidating, StandsAt};
-ghost use Rattle.art_attempt.specs.Attempts.{WantsNumbers, asks, deed_at, ended_at, is_free, supply_asks, validate_asks};
+ghost use Rattle.art_attempt.specs.Attempts.{EndsWithin, Fits, HasSupplies, IsKnown, IsRoom, IsSameTry, IsValidating, StandsAt, WantsNumbers, asks, deed_at, ended_at, is_free, supply_asks, validate_asks, PartFits, part_asks};
 ghost use Rattle.art_attempt.specs.Cases.{IsCaseOf, cells_of};
-ghost use Rattle.art_attempt.specs.Parts.{PartKnows, validated_in};
+ghost use Rattle.art_attempt.specs.Parts.{PartKnows, validated_in, Prepares};
 ghost use Rattle.art_attempt.specs.declared.attempts.Ending.TheVariants.{Restart as anew, Overlaps as overlaps};
 ghost use Rattle.art_attempt.specs.declared.attempts.Part.TheVariants as parts;
+ghost use Rattle.art_attempt.specs.declared.attempts.Part.{Part as PartOf};
 ghost use Rattle.art_attempt.specs.declared.attempts.Stage.TheVariants as stages;
-ghost use Rattle.art_attempt.specs.declared.cases.Case.{Case as CaseOf};
+ghost use Rattle.art_attempt.specs.declared.attempts.Case.{Case as CaseOf};
 ghost use Rattle.art_find.specs.Findings.{IsStanding};
 ghost use Rattle.art_find.specs.declared.findings.Position.{Position as PositionOf};
 ghost use Rattle.art_attempt.specs.Reserve.{ended_at as reserved_at};
@@ -33,7 +33,7 @@ use art_step::EpochSteps;
 impl Attempt {
     ghost use Rattle.std.specs.Prelude.{IfSome};
     ghost use Rattle.art_attempt.specs.Asking.{IsAllowed};
-    ghost use Rattle.art_attempt.specs.declared.rooms.Room.{Room as RoomOf};
+    ghost use Rattle.art_attempt.specs.declared.attempts.Room.{Room as RoomOf};
     ghost use Rattle.art_step.specs.declared.deeds.Deed.{Deed};
 
     /// What comes next where numbers are brought into the hand.
@@ -333,6 +333,94 @@ impl Attempt {
         match validated {
             Validated::Changed => self.stage = Stage::Ended(Ending::Restart),
             Validated::Unchanged => self.plan(room, position, case),
+        }
+    }
+}
+
+impl Attempt {
+    ghost use Rattle.std.specs.Prelude.{IfSome};
+    ghost use Rattle.art_attempt.specs.Asking.{Answers, IsAllowed};
+    ghost use Rattle.art_step.specs.declared.deeds.Deed.{Deed};
+
+    /// What comes next where the key stands.
+    #[inline(always)]
+    pub(crate) fn part_next(&self, room: &Room, position: &Position, part: &Part) -> Option<Action>
+        requires short { length room.now.row.key.items ≤ 64 }
+        ensures asks { result ≡ part_asks part.now position.now room.now }
+        ensures allowed { (z : Sizes) (u v : View) (d : Deed) → PartFits z u self.now.job position.now part.now room.now v →
+            IfSome result (IsAllowed z d room.now.change v) }
+        ensures going { (z : Sizes) (u v : View) → PartFits z u self.now.job position.now part.now room.now v →
+            (a : ActionOf) × (result ≡ Some a) }
+    {
+        match part {
+            Part::Reserve { reserve, .. } => self.supply_next(room, reserve),
+            Part::Reading(rereading) => self.read_next(position, rereading),
+            Part::Naming { naming, .. } => self.name_next(position, naming),
+            Part::Validate { case, validate } => self.validate_next(position, *case, validate),
+        }
+    }
+
+    /// A step of the part was made.
+    #[inline(always)]
+    pub(crate) fn part_told(&mut self, room: &mut Room, answer: Answer)
+        requires stage { (t : PositionOf) × (p : PartOf) × (self.old.stage ≡ stages.Placed t p) }
+        requires told { (z : Sizes) × (u : View) × (v : View) × (w : View) × (asked : ActionOf) × Fits z u self.old room.old v ×
+            (asks self.old room.old ≡ Some asked) × Answers z (deed_at self.old room.old) room.old.change asked answer v w }
+        ensures kept { IsSameTry self.old self.new room.old room.new }
+        ensures anew { ended_at self.new ≡ Some anew → goes_on answer ≡ false }
+        ensures not_overlaps { ended_at self.new ≢ Some overlaps }
+        ensures free { is_free self.new ≡ true }
+        ensures fits { (z : Sizes) (u v w : View) (asked : ActionOf) → Fits z u self.old room.old v →
+            asks self.old room.old ≡ Some asked → Answers z (deed_at self.old room.old) room.old.change asked answer v w →
+            Fits z u self.new room.new w }
+    {
+        let Stage::Placed { part, .. } = &self.stage else {
+            unreachable!()
+        };
+        match part {
+            Part::Reserve { .. } => self.supply_told(room, answer),
+            Part::Reading(_) => self.read_told(room, answer),
+            Part::Naming { .. } => self.name_told(room, answer),
+            Part::Validate { .. } => self.validate_told(room, answer),
+        }
+    }
+
+    /// Makes the steps that come before a change, as long as more than one turn is left: each part goes on where the one before it ended.
+    #[inline(always)]
+    pub(crate) fn prepare<S: EpochSteps>(&mut self, steps: &mut S, room: &mut Room, left: &mut u32)
+        requires free { is_free self.old ≡ true }
+        requires not_overlaps { ended_at self.old ≢ Some overlaps }
+        requires short { length room.old.row.key.items ≤ 64 }
+        requires turn { 0 < left.old }
+        requires fits { (u : View) × Fits (S.sizes steps.old) u self.old room.old (S.view steps.old) }
+        ensures only { S.only steps.old steps.new }
+        ensures free { is_free self.new ≡ true }
+        ensures not_overlaps { ended_at self.new ≢ Some overlaps }
+        ensures prepared { Prepares (S.sizes steps.old) self.old room.old left.old (S.view steps.old)
+            self.new room.new left.new (S.view steps.new) }
+    {
+        self.find_all(steps, room, left);
+        self.settle_on(steps, room, left);
+        self.read_all(steps, room, left);
+        self.name_all(steps, room, left);
+        self.supply_all(steps, room, left);
+        self.validate_all(steps, room, left);
+    }
+
+    /// It goes on where the key stands, with this part: a place where it stands already is not moved again.
+    #[inline(always)]
+    pub(crate) fn go_on(&mut self, position: &Position, part: Part)
+        requires at { StandsAt position.now self.old.stage }
+        ensures { self.new ≡ record self.old { stage = stages.Placed position.now part } }
+    {
+        match &mut self.stage {
+            Stage::Placed { part: here, .. } => *here = part,
+            _ => {
+                self.stage = Stage::Placed {
+                    position: *position,
+                    part,
+                };
+            }
         }
     }
 }

@@ -2,7 +2,7 @@
 use Rattle.std.proofs.Common.{◌≡◌, ◌+◌, ◌≤◌, ℕ, List, Option, Some, None, refl, subst}
 use Rattle.std.proofs.lemmas.Option.{same_Some}
 use Rattle.std.specs.Prelude.{IfSome}
-use Rattle.art_change.specs.ArtAttempt.declared.rooms.Room.{Room}
+use Rattle.art_change.specs.ArtAttempt.declared.attempts.Room.{Room}
 use Rattle.art_call.proofs.Written.{Says, write_called}
 use Rattle.art_call.specs.Calls.{GoesOn, HasCalled, IsWriting, write_wish}
 use Rattle.art_call.specs.Outcomes.{of_write}

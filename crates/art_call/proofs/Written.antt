@@ -1,7 +1,7 @@
 -- A write that has ended, as its call sees it.
 use Rattle.std.proofs.Common.{◌≡◌, ◌+◌, ◌≤◌, ℕ, true, List, refl, sym, ap, ◌∙◌, subst}
 use Rattle.arrayvec.specs.ArrayVec.{ArrayVec}
-use Rattle.art_change.specs.ArtAttempt.declared.rooms.Room.{Room}
+use Rattle.art_change.specs.ArtAttempt.declared.attempts.Room.{Room}
 use Rattle.art_call.specs.Calls.{GoesOn, Get, HasCalled, Insert, IsCaller, IsGround, IsWriting, Look, Remove, Wish, may_end, told_by}
 use Rattle.art_call.specs.Outcomes.{of_write}
 use Rattle.art_call.specs.declared.callers.Call.TheVariants as call

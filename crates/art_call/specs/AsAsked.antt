@@ -1,6 +1,6 @@
 -- A step of a call is the one that its machine asked for.
 use Rattle.std.specs.Prelude.{◌≡◌, ◌<◌, ℕ, zero, suc, List, Some}
-use Rattle.art_change.specs.ArtAttempt.declared.rooms.Room.{Room}
+use Rattle.art_change.specs.ArtAttempt.declared.attempts.Room.{Room}
 use Rattle.art_call.specs.declared.callers.Call.{Call}
 use Rattle.art_call.specs.declared.callers.Call.TheVariants as call
 use Rattle.art_call.specs.declared.callers.Caller.{Caller}

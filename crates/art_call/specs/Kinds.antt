@@ -5,7 +5,7 @@ use Rattle.art_step.specs.declared.step_kinds.StepKind.TheVariants as kind
 use Rattle.art_cell.specs.declared.cells.Cell.{Cell}
 use Rattle.art_cell.specs.declared.cells.Link.{Link}
 use Rattle.art_cell.specs.declared.cells.Node.{Node}
-use Rattle.art_cell.specs.declared.layouts.Pool.{Pool}
+use Rattle.art_cell.specs.declared.cells.Pool.{Pool}
 use Rattle.art_machine.specs.Acting.{Upgrades, leaf_linked, unlinked}
 use Rattle.art_machine.specs.declared.actions.Effects.{Effects}
 use Rattle.art_step.specs.Steps.Advance as advance

@@ -1,14 +1,14 @@
 -- What a pass has read of a cell, what it is told, and what it writes.
 use Rattle.std.specs.Prelude.{◌≡◌, ℕ, ◌+◌, ◌-◌, ◌<◌, ◌≤◌, List, [], ◌∷◌, length, get_or, filter_map, ◌==◌, if◌then◌else◌, Option, Some, None, ⊤}
 use Rattle.std.specs.List.{range_with_len}
-use Rattle.art_cell.specs.declared.layouts.Layout.{Layout}
-use Rattle.art_cell.specs.declared.bodies.Body.{Body}
+use Rattle.art_cell.specs.declared.cells.Layout.{Layout}
+use Rattle.art_cell.specs.declared.cells.Body.{Body}
 use Rattle.art_cell.specs.declared.node_kinds.Entry.{Entry}
 use Rattle.art_cell.specs.declared.node_kinds.Probe.{Probe}
 use Rattle.art_cell.specs.declared.node_kinds.Probe.TheVariants as probe
 use Rattle.art_cell.specs.declared.node_kinds.NextProbe.{NextProbe}
 use Rattle.art_cell.specs.declared.node_kinds.NextProbe.TheVariants as next
-use Rattle.art_cell.specs.declared.writes.Write.{Write}
+use Rattle.art_cell.specs.declared.cells.Write.{Write}
 use Rattle.art_cell.specs.Words.{Words, size}
 use Rattle.art_cell.specs.Bodies.{IsBody, Becomes}
 

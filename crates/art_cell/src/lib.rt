@@ -65,16 +65,10 @@
 //! The four layouts meet one trait, `NodeKind`, so that nothing above knows which one a node has.
 #![tactic(auto)]
 
-mod bodies;
 mod cells;
-mod layouts;
 mod node_kinds;
 mod reads;
-mod writes;
 
-pub use bodies::Body;
-pub use cells::{Cell, Link, Node};
-pub use layouts::{Layout, Pool};
+pub use cells::{Body, Cell, Layout, Link, Node, Pool, Write, Writes, changes};
 pub use node_kinds::{Entries, Entry, NextProbe, NodeKind, Probe};
 pub use reads::Reads;
-pub use writes::{Write, Writes, changes};

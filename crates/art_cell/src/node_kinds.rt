@@ -41,7 +41,7 @@ pub type Entries = ArrayVec<Entry, 256>;
 /// A probe looks at words that were read one by one, perhaps while another pass was writing. Whatever they are, it
 /// answers; where they are words of a node, the answer is that of the node's map.
 pub trait NodeKind {
-    ghost use Rattle.art_cell.specs.declared.layouts.Layout.{Layout};
+    ghost use Rattle.art_cell.specs.declared.cells.Layout.{Layout};
     ghost use Rattle.art_cell.specs.Words.{Words, child_of, entries, listed, nth_entry};
     ghost use Rattle.art_cell.specs.Bodies.{IsBody, IsFull, Becomes, TakesLowest};
     ghost use Rattle.art_cell.specs.Reads.{word_of, Agrees, ProbeNeeds, ProbeTells, NextNeeds, NextTells};

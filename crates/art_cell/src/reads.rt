@@ -3,7 +3,7 @@ ghost use Rattle.std.specs.Prelude.{◌≡◌, ◌≢◌, ◌+◌, ◌-◌, ◌%
 ghost use Rattle.std.specs.Int.{bit_at};
 ghost use Rattle.art_cell.specs.Reads.{AreNoted, word_read};
 
-use crate::bodies::WORDS;
+use crate::cells::WORDS;
 use std::marker::Model;
 
 /// How many words the bits of all places take.
@@ -92,55 +92,45 @@ impl Reads {
         self.known[place / 64] |= mask(first, first + words.len());
     }
 
-    /// Copies the words that were read to their places, and 0 to all other places.
-    pub fn copy_to(&self, words: &mut [u64; WORDS])
-        ensures { (place : ℕ) → place < 266 → get_or words.new place 0 ≡ unwrap_or (word_read self.now place) 0 }
+    /// Each of the first places, so many, gets the word that was read there, or 0. What stands behind them stays.
+    pub fn copy_to(&self, words: &mut [u64; WORDS], count: usize)
+        requires { count ≤ 266 }
+        ensures here { (place : ℕ) → place < count → get_or words.new place 0 ≡ unwrap_or (word_read self.now place) 0 }
+        ensures behind { (place : ℕ) → count ≤ place → get_or words.new place 0 ≡ get_or words.old place 0 }
     {
-        let groups = self.groups_read();
-        for group in 0..groups {
-            self.copy_group(words, group);
+        for group in 0..count.div_ceil(64) {
+            self.copy_group(words, group, count);
         }
-        clear(words, WORDS.min(64 * groups), WORDS);
     }
 
-    /// How many words of bits there are up to the last in which a word was read.
-    fn groups_read(&self) -> usize
-        ensures within { result ≤ 5 }
-        ensures none { (place : ℕ) → 64 * result ≤ place → place < 266 → word_read self.now place ≡ None }
-    {
-        let mut groups = BIT_WORDS;
-        while groups > 0 && self.known[groups - 1] == 0 {
-            groups -= 1;
-        }
-        groups
-    }
-
-    /// Copies so to the places of one word of bits.
-    fn copy_group(&self, words: &mut [u64; WORDS], group: usize)
-        requires { group < 5 }
+    /// Copies so to the places of one word of bits, below the count.
+    fn copy_group(&self, words: &mut [u64; WORDS], group: usize, count: usize)
+        requires some { 64 * group < count }
+        requires few { count ≤ 266 }
         ensures below { (place : ℕ) → place < 64 * group → get_or words.new place 0 ≡ get_or words.old place 0 }
-        ensures here { (place : ℕ) → 64 * group ≤ place → place < min 266 (64 * group + 64) →
+        ensures here { (place : ℕ) → 64 * group ≤ place → place < min count (64 * group + 64) →
             get_or words.new place 0 ≡ unwrap_or (word_read self.now place) 0 }
+        ensures behind { (place : ℕ) → min count (64 * group + 64) ≤ place → get_or words.new place 0 ≡ get_or words.old place 0 }
     {
-        let length = bit_length(self.known[group]);
+        let from = 64 * group;
+        let end = count.min(from + 64);
+        let length = bit_length(self.known[group]).min(end - from);
         self.copy_first(words, group, length);
-        clear(
-            words,
-            WORDS.min(64 * group + length),
-            WORDS.min(64 * group + 64),
-        );
+        clear(words, from + length, end);
     }
 
     /// Copies so to the first places of one word of bits, so many.
     fn copy_first(&self, words: &mut [u64; WORDS], group: usize, count: usize)
         requires group { group < 5 }
         requires few { count ≤ 64 }
+        requires room { 64 * group + count ≤ 266 }
         ensures below { (place : ℕ) → place < 64 * group → get_or words.new place 0 ≡ get_or words.old place 0 }
-        ensures here { (place : ℕ) → 64 * group ≤ place → place < min 266 (64 * group + count) →
+        ensures here { (place : ℕ) → 64 * group ≤ place → place < 64 * group + count →
             get_or words.new place 0 ≡ unwrap_or (word_read self.now place) 0 }
+        ensures behind { (place : ℕ) → 64 * group + count ≤ place → get_or words.new place 0 ≡ get_or words.old place 0 }
     {
         let from = 64 * group;
-        let end = WORDS.min(from + count);
+        let end = from + count;
         // the version word of a cell, which is the first one, is never read
         if count > 0 && self.known[group] | 1 == mask(0, count) {
             let all = &mut words[..];
@@ -156,6 +146,7 @@ impl Reads {
         requires { to ≤ 266 }
         ensures below { (place : ℕ) → place < from → get_or words.new place 0 ≡ get_or words.old place 0 }
         ensures here { (place : ℕ) → from ≤ place → place < to → get_or words.new place 0 ≡ unwrap_or (word_read self.now place) 0 }
+        ensures behind { (place : ℕ) → to ≤ place → get_or words.new place 0 ≡ get_or words.old place 0 }
     {
         for place in from..to {
             words[place] = self.get(place).unwrap_or(0);
@@ -168,6 +159,7 @@ fn clear(words: &mut [u64; WORDS], from: usize, to: usize)
     requires { to ≤ 266 }
     ensures below { (place : ℕ) → place < from → get_or words.new place 0 ≡ get_or words.old place 0 }
     ensures here { (place : ℕ) → from ≤ place → place < to → get_or words.new place 0 ≡ 0 }
+    ensures behind { (place : ℕ) → to ≤ place → get_or words.new place 0 ≡ get_or words.old place 0 }
 {
     for place in from..to {
         words[place] = 0;

@@ -1,7 +1,7 @@
 -- What a client sees of a write that has ended.
 use Rattle.std.proofs.Common.{◌≡◌, ℕ, ◌++◌, List, [], ◌∷◌, length, Option, Some, None, sym, ap, ap₂, ◌∙◌, subst}
 use Rattle.art_change.proofs.Endings.{IsLeft, left_by, left_since}
-use Rattle.art_attempt.specs.declared.rooms.Room.{Room}
+use Rattle.art_attempt.specs.declared.attempts.Room.{Room}
 use Rattle.art_change.specs.Writes.{HasAnswered, IsExiting, IsDone, told_by}
 use Rattle.art_change.specs.declared.writes.Write.{Write}
 use Rattle.art_change.specs.declared.writes.Outcome.{Outcome}

@@ -1,6 +1,6 @@
 -- How many steps a write that has ended made, and how many failures it met.
 use Rattle.std.proofs.Common.{◌≡◌, List, ap, arith}
-use Rattle.art_attempt.specs.declared.rooms.Room.{Room}
+use Rattle.art_attempt.specs.declared.attempts.Room.{Room}
 use Rattle.art_change.proofs.Endings.{left_by}
 use Rattle.art_attempt.specs.Attempts.{EndsSo}
 use Rattle.art_change.specs.Writes.{HasCounted, OutcomeBy, IsExiting, IsDone, UsedTurns}

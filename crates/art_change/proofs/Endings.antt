@@ -12,8 +12,8 @@ use Rattle.art_attempt.specs.declared.attempts.Job.{Job}
 use Rattle.art_attempt.specs.declared.attempts.Job.TheVariants.{Insert, Remove}
 use Rattle.art_attempt.specs.declared.attempts.Stage.{Stage}
 use Rattle.art_attempt.specs.declared.attempts.Stage.TheVariants as stage
-use Rattle.art_attempt.specs.declared.cases.Case.{Case}
-use Rattle.art_attempt.specs.declared.rooms.Room.{Room}
+use Rattle.art_attempt.specs.declared.attempts.Case.{Case}
+use Rattle.art_attempt.specs.declared.attempts.Room.{Room}
 use Rattle.art_cell.specs.declared.cells.Link.{Link}
 use Rattle.art_change.specs.Writes.{OutcomeBy, gone_by, told_by}
 use Rattle.art_change.specs.declared.writes.Outcome.{Outcome}

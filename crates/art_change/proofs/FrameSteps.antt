@@ -7,10 +7,10 @@ use Rattle.art_epoch.specs.Limbo.{open_index}
 use Rattle.art_epoch.specs.Pins as pins
 use Rattle.art_epoch.specs.Reclaiming as reclaims
 use Rattle.art_epoch.specs.declared.limbo.Place.{Place}
-use Rattle.art_epoch.specs.declared.pins.Pinning.{Pinning}
-use Rattle.art_epoch.specs.declared.pins.Pinning.TheVariants as pinning
-use Rattle.art_epoch.specs.declared.reclaiming.ReclaimStage.{ReclaimStage}
-use Rattle.art_epoch.specs.declared.reclaiming.ReclaimStage.TheVariants as reclaiming
+use Rattle.art_epoch.specs.declared.enter.Pinning.{Pinning}
+use Rattle.art_epoch.specs.declared.enter.Pinning.TheVariants as pinning
+use Rattle.art_epoch.specs.declared.limbo.ReclaimStage.{ReclaimStage}
+use Rattle.art_epoch.specs.declared.limbo.ReclaimStage.TheVariants as reclaiming
 use Rattle.art_epoch.specs.Exit as exits
 use Rattle.art_epoch.specs.Enter as enters
 use Rattle.art_epoch.specs.Stocks.{first_in}

@@ -5,7 +5,7 @@ use Rattle.std.proofs.lemmas.Option.{same_Some}
 use Rattle.art_attempt.proofs.Tries.{later_first, still_then}
 use Rattle.art_attempt.specs.Attempts.{EndFits, EndsSo, HasHand, IsRoom, ended_left, tries_left}
 use Rattle.art_attempt.specs.Trying.{StillTries}
-use Rattle.art_attempt.specs.declared.rooms.Room.{Room}
+use Rattle.art_attempt.specs.declared.attempts.Room.{Room}
 use Rattle.art_change.proofs.Endings.{left_by, left_since}
 use Rattle.art_change.proofs.Staged.{asked_at, fits_at, made_at, steps_at}
 use Rattle.art_change.specs.Writes.{Answers, Fits, HasBegun, StageFits, asks, asks_at, brings_at, left_at, steps_left as write_left, IsExiting, IsDone, IsEntering, OutcomeBy, given, gone_by, or_busy, outcome_of}

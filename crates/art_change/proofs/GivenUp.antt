@@ -6,7 +6,7 @@ use Rattle.std.specs.Prelude.{get_or}
 use Rattle.arrayvec.specs.ArrayVec.{ArrayVec}
 use Rattle.art_attempt.specs.Attempts.{Fits as TryFits, StageFits as AttemptFits, ended_at as try_ended, ending_at, free_at, is_free}
 use Rattle.art_make.specs.Apply.{is_begun}
-use Rattle.art_attempt.specs.declared.rooms.Room.{Room}
+use Rattle.art_attempt.specs.declared.attempts.Room.{Room}
 use Rattle.art_cell.specs.declared.cells.Cell.TheVariants as cell
 use Rattle.art_cell.specs.declared.cells.Link.{Link}
 use Rattle.art_cell.specs.declared.cells.Node.{Node}

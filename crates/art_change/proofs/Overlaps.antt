@@ -6,7 +6,7 @@ use Rattle.std.proofs.lemmas.Option.{same_Some}
 use Rattle.art_attempt.proofs.Overlaps as attempts
 use Rattle.art_attempt.specs.Asking.{Answers as TryAnswers}
 use Rattle.art_attempt.specs.Attempts.{Fits as TryFits, IsOverlapBy, asks as try_asks, deed_at as try_deed}
-use Rattle.art_attempt.specs.declared.rooms.Room.{Room}
+use Rattle.art_attempt.specs.declared.attempts.Room.{Room}
 use Rattle.art_change.specs.Writes.{Answers, FindsOverlap, Fits, NoneOverlaps, StageFits, asks, asks_at, brings_at, or_busy, outcome_of, overlaps_by}
 use Rattle.art_attempt.specs.declared.attempts.Ending.{Ending}
 use Rattle.art_attempt.specs.declared.attempts.Ending.TheVariants as ending

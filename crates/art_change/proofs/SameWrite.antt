@@ -1,6 +1,6 @@
 -- A write is the same before its first step, and after the steps of one stage and of the next.
 use Rattle.std.proofs.Common.{◌∙◌, refl}
-use Rattle.art_attempt.specs.declared.rooms.Room.{Room}
+use Rattle.art_attempt.specs.declared.attempts.Room.{Room}
 use Rattle.art_change.specs.Writes.{IsSameWrite}
 use Rattle.art_change.specs.declared.writes.Write.{Write}
 

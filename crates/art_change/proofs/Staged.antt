@@ -1,7 +1,7 @@
 -- What is known of a write, at the stage where it stands.
 use Rattle.std.proofs.Common.{◌≡◌, List, Option, sym, ap, ◌∙◌, subst}
 use Rattle.art_attempt.specs.declared.attempts.Attempt.{Attempt}
-use Rattle.art_attempt.specs.declared.rooms.Room.{Room}
+use Rattle.art_attempt.specs.declared.attempts.Room.{Room}
 use Rattle.art_change.specs.Writes.{Answers, Fits, StageFits, asks, asks_at, brings_at, left_at, steps_left}
 use Rattle.art_change.specs.declared.writes.Stage.{Stage}
 use Rattle.art_change.specs.declared.writes.Stage.TheVariants as stages

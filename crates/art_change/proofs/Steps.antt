@@ -2,7 +2,7 @@
 use Rattle.std.proofs.Common.{◌≡◌, ◌≢◌, ◌+◌, ◌≤◌, List, Some, None, refl, arith}
 use Rattle.art_attempt.proofs.Counts.{attempt_steps}
 use Rattle.art_attempt.specs.declared.attempts.Attempt.{Attempt}
-use Rattle.art_attempt.specs.declared.rooms.Room.{Room}
+use Rattle.art_attempt.specs.declared.attempts.Room.{Room}
 use Rattle.art_change.proofs.FrameSteps.{IsFrame, exit_frame, frame_one, enter_frame}
 use Rattle.art_change.specs.Writes.{Answers, Fits, StageFits, asks, asks_at, brings_at}
 use Rattle.art_change.specs.declared.writes.Stage.{Stage}

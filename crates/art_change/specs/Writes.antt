@@ -5,8 +5,8 @@ use Rattle.art_attempt.specs.Attempts as attempts
 use Rattle.art_attempt.specs.Asking as asking
 use Rattle.art_attempt.specs.Attempts.{EndFits, EndsSo, GoesBy, HasHand, IsExhausted, IsFull, IsOverlap, IsRoom, absent, present, tries_left}
 use Rattle.art_attempt.specs.Trying.{IsLimited, StillTries}
-use Rattle.art_attempt.specs.declared.cases.Case.{Case}
-use Rattle.art_attempt.specs.declared.rooms.Room.{Room}
+use Rattle.art_attempt.specs.declared.attempts.Case.{Case}
+use Rattle.art_attempt.specs.declared.attempts.Room.{Room}
 use Rattle.art_cell.specs.declared.cells.Link.{Link}
 use Rattle.art_attempt.specs.declared.attempts.Attempt.{Attempt}
 use Rattle.art_attempt.specs.declared.attempts.Ending.{Ending}
@@ -31,7 +31,7 @@ use Rattle.art_epoch.specs.declared.exit.Exit.TheVariants as exit
 use Rattle.art_epoch.specs.Stocks.{first_in, hinted_at}
 use Rattle.art_epoch.specs.declared.stocks.Stock.{Stock}
 use Rattle.art_plan.specs.Insert.Puts.{inserted}
-use Rattle.art_plan.specs.declared.insert.leaves.NewLeaf.{NewLeaf}
+use Rattle.art_plan.specs.declared.insert.NewLeaf.{NewLeaf}
 use Rattle.art_find.specs.declared.findings.Position.{Position}
 use Rattle.art_find.specs.Verdicts.{HasOverlap}
 use Rattle.art_machine.specs.declared.actions.Action.{Action}
@@ -41,7 +41,7 @@ use Rattle.art_machine.specs.declared.actions.Answer.{Answer}
 use Rattle.art_machine.specs.declared.actions.Effects.{Effects}
 use Rattle.art_plan.specs.declared.changes.Change.{Change}
 use Rattle.art_plan.specs.Remove.Removals.{removed}
-use Rattle.art_plan.specs.declared.remove.leaves.OldLeaf.{OldLeaf}
+use Rattle.art_plan.specs.declared.remove.OldLeaf.{OldLeaf}
 use Rattle.art_step.specs.Events.{MakesEvent, SeesEvent}
 use Rattle.art_step.specs.Histories.{AreApart}
 use Rattle.art_step.specs.Shows.{Shows}

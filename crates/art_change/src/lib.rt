@@ -37,11 +37,9 @@
 //! a check (`FindsOverlap`), whatever keys are admitted.
 #![tactic(auto)]
 
-mod driver;
 mod writes;
 
 pub use art_attempt;
 pub use art_attempt::Job;
 pub use art_find;
-pub use driver::{Stepped, finish, step};
-pub use writes::{Outcome, Stage, Write};
+pub use writes::{Outcome, Stage, Stepped, Write, finish, step};

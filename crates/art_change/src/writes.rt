@@ -3,10 +3,11 @@ ghost use Rattle.std.specs.Prelude.{◌≡◌, ◌≢◌, ◌⊎◌, ℕ, ◌+�
 ghost use Rattle.art_attempt.specs.Attempts.{EndFits, HasHand, IsRoom, ended_left, tries_left};
 ghost use Rattle.art_attempt.specs.declared.attempts.Attempt.{Attempt as AttemptOf};
 ghost use Rattle.art_attempt.specs.declared.attempts.Ending.TheVariants.{Restart as anew, Overlaps as attempt_overlaps};
-ghost use Rattle.art_attempt.specs.declared.rooms.Room.{Room as RoomOf};
-ghost use Rattle.art_change.specs.Writes.{Answers, Fits, HasAnswered, HasBegun, HasCounted, HasGround, IsAllowed, IsApart, IsReady, IsSameWrite, IsTrying, MayWrite, OutcomeBy, OverlapsBy, RestartsBy, SameRow, WasOpened};
-ghost use Rattle.art_change.specs.Writes.{HoldsOrTold, WillRefuse, freed_by, given, is_refusal, turns_used};
-ghost use Rattle.art_change.specs.Writes.{asks, ended_at, gone_by, most_steps, or_busy, outcome_in, outcome_of, steps_left};
+ghost use Rattle.art_attempt.specs.declared.attempts.Room.{Room as RoomOf};
+ghost use Rattle.art_change.specs.Writes.{Answers, Fits, HasAnswered, HasBegun, HasCounted, HasGround, IsAllowed, IsApart, IsReady};
+ghost use Rattle.art_change.specs.Writes.{IsSameWrite, IsTrying, MayWrite, OutcomeBy, OverlapsBy, RestartsBy, SameRow, WasOpened};
+ghost use Rattle.art_change.specs.Writes.{HoldsOrTold, WillRefuse, freed_by, given, is_refusal, turns_used, asks, ended_at, gone_by};
+ghost use Rattle.art_change.specs.Writes.{most_steps, or_busy, outcome_in, outcome_of, steps_left, NoneOverlaps};
 ghost use Rattle.art_change.specs.declared.writes.Outcome.{Outcome as OutcomeOf};
 ghost use Rattle.art_change.specs.declared.writes.Outcome.TheVariants.{Overlaps as overlaps};
 ghost use Rattle.art_change.specs.declared.writes.Stage.TheVariants as stages;
@@ -19,6 +20,7 @@ ghost use Rattle.art_machine.specs.Acting.{IsAllowed as IsActionAllowed, PassesA
 ghost use Rattle.art_machine.specs.declared.actions.Action.{Action as ActionOf};
 ghost use Rattle.art_step.specs.declared.views.Sizes.{Sizes};
 ghost use Rattle.art_step.specs.declared.views.View.{View};
+ghost use Rattle.art_step.specs.Histories.{AreApart};
 
 use art_attempt::{Attempt, Ending, Job, Room, make};
 use art_cell::{Cell, Pool};
@@ -601,4 +603,74 @@ fn or_busy(left: u32, outcome: Outcome) -> Outcome
     ensures { result ≡ or_busy left outcome }
 {
     if left == 0 { Outcome::Busy } else { outcome }
+}
+
+/// What was asked, and what was answered. It was one step, or none where the counter of a cell that was to be locked is at its end.
+#[derive(Clone, Copy)]
+pub struct Stepped {
+    pub action: Action,
+    pub answer: Answer,
+}
+
+/// Makes the next step of a write: one step, or none where a counter is at its end.
+pub fn step<S: EpochSteps>(
+    steps: &mut S,
+    write: &mut Write,
+    room: &mut Room,
+    limbo: &mut Limbo,
+) -> Stepped
+    requires admitted { S.admits steps.old room.old.row.key.items }
+    requires going { ended_at write.old ≡ None }
+    requires fits { (u : View) × (ps : List Place) ×
+        Fits (S.sizes steps.old) u ps write.old room.old (places_of limbo.old) (S.view steps.old) }
+    ensures only { S.only steps.old steps.new }
+    ensures job { write.new.job ≡ write.old.job }
+    ensures turns { write.new.turns ≡ write.old.turns }
+    ensures key { SameRow room.old room.new }
+    ensures asked { asks write.old room.old (places_of limbo.old) ≡ Some result.action }
+    ensures allowed { IsAllowed (S.sizes steps.old) write.old room.old (S.view steps.old) result.action }
+    ensures row { Answers (S.sizes steps.old) write.old room.old result.action result.answer (S.view steps.old) (S.view steps.new) }
+    ensures restarts { RestartsBy write.old write.new result.answer }
+    ensures refuses { WillRefuse write.old → WillRefuse write.new }
+    ensures apart { NoneOverlaps (S.admits steps.old) (S.sizes steps.old) room.old.row.key.items
+        (S.view steps.old) (S.view steps.new) → IsApart write.old → IsApart write.new }
+    ensures one { (S.view steps.new).steps ≤ (S.view steps.old).steps + 1 }
+    ensures left { steps_left write.new room.new (places_of limbo.new) < steps_left write.old room.old (places_of limbo.old) }
+    ensures fits { (u : View) (ps : List Place) →
+        Fits (S.sizes steps.old) u ps write.old room.old (places_of limbo.old) (S.view steps.old) →
+        Fits (S.sizes steps.old) u ps write.new room.new (places_of limbo.new) (S.view steps.new) }
+{
+    let Some(action) = write.next(room, limbo) else {
+        unreachable!()
+    };
+    let answer = write.make_step(steps, action, room);
+    write.told(room, limbo, answer);
+    Stepped { action, answer }
+}
+
+/// Makes all steps that are left of a write.
+pub fn finish<S: EpochSteps>(steps: &mut S, write: &mut Write, room: &mut Room, limbo: &mut Limbo)
+    requires admitted { S.admits steps.old room.old.row.key.items }
+    requires fits { (u : View) × (ps : List Place) ×
+        Fits (S.sizes steps.old) u ps write.old room.old (places_of limbo.old) (S.view steps.old) }
+    ensures only { S.only steps.old steps.new }
+    ensures ended { (o : OutcomeOf) × (ended_at write.new ≡ Some o) }
+    ensures job { write.new.job ≡ write.old.job }
+    ensures turns { write.new.turns ≡ write.old.turns }
+    ensures key { SameRow room.old room.new }
+    ensures refuses { WillRefuse write.old → WillRefuse write.new }
+    ensures apart { AreApart (S.admits steps.old) → IsApart write.old → IsApart write.new }
+    ensures left { (S.view steps.new).steps + steps_left write.new room.new (places_of limbo.new) ≤
+        (S.view steps.old).steps + steps_left write.old room.old (places_of limbo.old) }
+    ensures fits { (u : View) (ps : List Place) →
+        Fits (S.sizes steps.old) u ps write.old room.old (places_of limbo.old) (S.view steps.old) →
+        Fits (S.sizes steps.old) u ps write.new room.new (places_of limbo.new) (S.view steps.new) }
+{
+    loop {
+        write.hurry(steps, room, limbo);
+        if write.ended().is_some() {
+            return;
+        }
+        step(steps, write, room, limbo);
+    }
 }

@@ -5,7 +5,7 @@ use Rattle.std.proofs.lemmas.List.Sums.{sum_by-cons}
 use Rattle.std.specs.List.{count_by, range_with_len}
 use Rattle.art_cell.specs.Children.{link_in_pool, number_of}
 use Rattle.art_cell.specs.declared.cells.Link.{Link}
-use Rattle.art_cell.specs.declared.layouts.Pool.{Pool}
+use Rattle.art_cell.specs.declared.cells.Pool.{Pool}
 use Rattle.art_shared.specs.Closing.{Fate, Free, HasFate, InLimbo, IsAccounted, Linked}
 use Rattle.art_shared.specs.Rule.{Apart}
 use Rattle.art_shared.specs.declared.pass.Pass.{Pass}

@@ -3,7 +3,7 @@ use Rattle.std.specs.Prelude.{◌≡◌, ◌↔◌, ℕ, ◌+◌, List, [], ◌�
 use Rattle.std.specs.List.{count_by, range_with_len, sum_by}
 use Rattle.art_cell.specs.Children.{link_in_pool}
 use Rattle.art_cell.specs.declared.cells.Link.{Link}
-use Rattle.art_cell.specs.declared.layouts.Pool.{Pool}
+use Rattle.art_cell.specs.declared.cells.Pool.{Pool}
 use Rattle.art_epoch.specs.Limbo.{IsLimbo}
 use Rattle.art_epoch.specs.declared.limbo.Place.{Place}
 use Rattle.art_shared.specs.Closing.{Fate, Free, HasFate, InLimbo, IsAccounted, Linked}

@@ -1,6 +1,6 @@
 -- The laws of what a closed table has.
 use Rattle.std.specs.Prelude.{◌≡◌, ◌≤◌, List}
-use Rattle.art_cell.specs.declared.layouts.Pool.{Pool}
+use Rattle.art_cell.specs.declared.cells.Pool.{Pool}
 use Rattle.art_epoch.specs.declared.limbo.Place.{Place}
 use Rattle.art_key.specs.declared.columns.Column.{Column}
 use Rattle.art_model.specs.declared.rows.Row.{Row}

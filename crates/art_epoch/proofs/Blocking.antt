@@ -14,9 +14,9 @@ use Rattle.art_epoch.specs.Reclaiming.{Fits, IsLeast, IsWatched, IsWatching, Loo
 use Rattle.art_machine.specs.declared.actions.Action.{Action}
 use Rattle.art_machine.specs.declared.actions.Action.TheVariants.{Free, ReadEpoch, RaiseEpoch, ReadPin}
 use Rattle.art_epoch.specs.declared.limbo.Place.{Place}
-use Rattle.art_epoch.specs.declared.reclaiming.ReclaimStage.{ReclaimStage}
-use Rattle.art_epoch.specs.declared.reclaiming.ReclaimStage.TheVariants.{Noting, Raising, Watching, Freeing}
-use Rattle.art_epoch.specs.declared.reclaiming.Reclaiming.{Reclaiming}
+use Rattle.art_epoch.specs.declared.limbo.ReclaimStage.{ReclaimStage}
+use Rattle.art_epoch.specs.declared.limbo.ReclaimStage.TheVariants.{Noting, Raising, Watching, Freeing}
+use Rattle.art_epoch.specs.declared.limbo.Reclaiming.{Reclaiming}
 use Rattle.art_epoch.proofs.Reclaimed.{goes_below, may_go}
 use Rattle.art_epoch.specs.Enter.{IsBlocked, IsBlocker, blocked_by, blocker_after, first_label, looked, reclaiming_after, watched, words_found}
 use Rattle.art_epoch.specs.declared.enter.Blocker.{Blocker}

@@ -11,9 +11,9 @@ use Rattle.art_epoch.specs.Reclaiming.{Retires}
 use Rattle.art_machine.specs.declared.actions.Action.{Action}
 use Rattle.art_epoch.specs.declared.limbo.Place.{Place}
 use Rattle.art_epoch.specs.Exit.{ExitFits, IsClosed, IsGiving, MayClose, gives_link, stage_of, steps_left, without_link}
-use Rattle.art_epoch.specs.Stocks.{count_in, first_in, without}
+use Rattle.art_epoch.specs.Stocks.{GoesFirst, count_in, first_in, without}
 use Rattle.art_epoch.specs.declared.stocks.Stock.{Stock}
-use Rattle.art_epoch.proofs.Stocked.{at_most_five, first_is_in, in_hand, nothing_in_hand, one_fewer, stock_hands_over, stock_same}
+use Rattle.art_epoch.proofs.Stocked.{at_most_five, first_is_in, goes_first, in_hand, nothing_in_hand, one_fewer, stock_hands_over, stock_same}
 use Rattle.art_step.specs.Steps.Give as give
 use Rattle.art_step.specs.Steps.Pin as pin
 use Rattle.art_step.specs.Views.{Member}
@@ -60,6 +60,11 @@ told_labelling z k value u w ps qs us s may r = record {
 }
 
 -- ---- a number goes back, or the pass goes idle
+
+-- the one that goes back is the first
+pub gives_first : (s : Stock) (o : Option Link) (d : Link) → first_in s ≡ o → gives_link o ≡ GiveBack d → GoesFirst s d
+gives_first s (Some e) d is gives = let same : e ≡ d = cc in goes_first s d (is ∙ ap Some same)
+gives_first s None d is gives = absurd (cc)
 
 module _ (z : Sizes) (k : List ℕ) (value : ℕ) (u v : View) (ps qs : List Place) (us : List Link) (s : Stock) (g : IsGiving z k value u v ps qs us s) where
   free_now : v.held ≡ []

@@ -12,11 +12,11 @@ use Rattle.art_epoch.specs.Reclaiming.{OnlyReclaims, Reclaims, asks_at, least_at
 use Rattle.art_machine.specs.declared.actions.Action.{Action}
 use Rattle.art_machine.specs.declared.actions.Action.TheVariants.{Free, ReadEpoch}
 use Rattle.art_epoch.specs.declared.limbo.Place.{Place}
-use Rattle.art_epoch.specs.declared.pins.Pinning.{Pinning}
-use Rattle.art_epoch.specs.declared.pins.Pinning.TheVariants.{Noting}
-use Rattle.art_epoch.specs.declared.reclaiming.ReclaimStage.{ReclaimStage}
-use Rattle.art_epoch.specs.declared.reclaiming.ReclaimStage.TheVariants as stage
-use Rattle.art_epoch.specs.declared.reclaiming.Reclaiming.{Reclaiming}
+use Rattle.art_epoch.specs.declared.enter.Pinning.{Pinning}
+use Rattle.art_epoch.specs.declared.enter.Pinning.TheVariants.{Noting}
+use Rattle.art_epoch.specs.declared.limbo.ReclaimStage.{ReclaimStage}
+use Rattle.art_epoch.specs.declared.limbo.ReclaimStage.TheVariants as stage
+use Rattle.art_epoch.specs.declared.limbo.Reclaiming.{Reclaiming}
 use Rattle.art_epoch.proofs.Pinned.{pinning_same}
 use Rattle.art_epoch.proofs.Reclaimed.{only_reclaims, only_so_far, reclaim_ends, reclaim_steps, reclaim_told}
 use Rattle.art_epoch.specs.Enter.{IsBlocked, IsBlocker, IsCrowded, IsOpened, IsPinnedOn, IsPinning, IsReclaimed, IsReclaiming, EnterFits, blocker_after, ended_at, first_label, going_on, reclaimed, reclaiming_after, steps_left, words_found}

@@ -2,8 +2,8 @@
 use Rattle.std.proofs.Common.{◌≡◌, ℕ, ◌+◌, ◌^◌, ◌<◌, Some, inr, sym, refl, ap, subst}
 use Rattle.art_epoch.specs.Pins.{Fits, IsNoting, asks}
 use Rattle.art_machine.specs.declared.actions.Action.{Action}
-use Rattle.art_epoch.specs.declared.pins.Pinning.{Pinning}
-use Rattle.art_epoch.specs.declared.pins.Pinning.TheVariants.{Noting, Storing, Ended}
+use Rattle.art_epoch.specs.declared.enter.Pinning.{Pinning}
+use Rattle.art_epoch.specs.declared.enter.Pinning.TheVariants.{Noting, Storing, Ended}
 use Rattle.art_step.specs.declared.views.Sizes.{Sizes}
 use Rattle.art_step.specs.declared.views.View.{View}
 use Rattle.art_step.specs.Steps.Advance as advance

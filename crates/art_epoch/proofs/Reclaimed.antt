@@ -14,9 +14,9 @@ use Rattle.art_epoch.specs.Reclaiming.{HearsWord, Fits, IsBelowAll, IsFreeing, I
 use Rattle.art_machine.specs.declared.actions.Action.{Action}
 use Rattle.art_machine.specs.declared.actions.Action.TheVariants.{Free, ReadEpoch, RaiseEpoch, ReadPin}
 use Rattle.art_epoch.specs.declared.limbo.Place.{Place}
-use Rattle.art_epoch.specs.declared.reclaiming.ReclaimStage.{ReclaimStage}
-use Rattle.art_epoch.specs.declared.reclaiming.ReclaimStage.TheVariants.{Noting, Raising, Watching, Freeing}
-use Rattle.art_epoch.specs.declared.reclaiming.Reclaiming.{Reclaiming}
+use Rattle.art_epoch.specs.declared.limbo.ReclaimStage.{ReclaimStage}
+use Rattle.art_epoch.specs.declared.limbo.ReclaimStage.TheVariants.{Noting, Raising, Watching, Freeing}
+use Rattle.art_epoch.specs.declared.limbo.Reclaiming.{Reclaiming}
 use Rattle.art_step.specs.declared.views.Retired.{Retired}
 use Rattle.art_step.specs.declared.views.Sizes.{Sizes}
 use Rattle.art_step.specs.declared.views.View.{View}

@@ -5,17 +5,17 @@ use Rattle.std.proofs.lemmas.Nat.Bits.{bit_at-trailing_zeros}
 use Rattle.std.proofs.lemmas.Option.{same_Some}
 use Rattle.std.specs.Int.{trailing_zeros}
 use Rattle.std.specs.Prelude.{Option, Some, None, IfSome}
-use Rattle.art_cell.specs.declared.layouts.Pool.{Pool}
+use Rattle.art_cell.specs.declared.cells.Pool.{Pool}
 use Rattle.art_machine.proofs.Words.{is_word, word_row}
 use Rattle.art_machine.specs.Acting.{Answers, FindsWord as IsHeard, IsWord, word_in}
 use Rattle.art_machine.specs.declared.actions.Answer.{Answer}
 use Rattle.art_machine.specs.declared.actions.Answer.TheVariants.{Word}
-use Rattle.art_epoch.specs.Taking.{Fits, GaveNone, HasTaken, IsLowest, IsSearch, IsSeen, MadeFew, NoneAround, NoneBefore, OnlyTakes, SearchFits, TookFirst, TookLowest, TookNone, WasFound, WasLost, after_clear, after_look, around, asks, asks_at, looks_made, search_after, steps_left}
+use Rattle.art_epoch.specs.Taking.{Fits, GaveNone, IsLowest, IsSearch, IsSeen, MadeFew, NoneAround, OnlyTakes, SearchFits, TookFirst, TookNone, WasFound, WasLost, after_clear, after_look, around, asks, asks_at, looks_made, search_after, steps_left}
 use Rattle.art_machine.specs.declared.actions.Action.{Action}
 use Rattle.art_machine.specs.declared.actions.Action.TheVariants.{ClearBit}
-use Rattle.art_epoch.specs.declared.taking.Search.{Search}
-use Rattle.art_epoch.specs.declared.taking.Search.TheVariants.{Looking, Clearing, Took}
-use Rattle.art_epoch.specs.declared.taking.Taking.{Taking}
+use Rattle.art_epoch.specs.declared.stocks.Search.{Search}
+use Rattle.art_epoch.specs.declared.stocks.Search.TheVariants.{Looking, Clearing, Took}
+use Rattle.art_epoch.specs.declared.stocks.Taking.{Taking}
 use Rattle.art_step.specs.declared.views.Found.{Found}
 use Rattle.art_step.specs.declared.views.InHand.{InHand}
 use Rattle.art_step.specs.declared.views.Sizes.{Sizes}

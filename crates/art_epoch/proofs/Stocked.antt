@@ -1,20 +1,22 @@
 -- The numbers in hand, from step to step.
-use Rattle.std.proofs.Common.{◌≡◌, ◌≢◌, ◌⊎◌, ℕ, ◌+◌, ◌/◌, ◌≤◌, false, List, [], ◌∷◌, inl, inr, ⊎_elim, sym, refl, ap, ◌∙◌, subst, arith}
+use Rattle.std.proofs.Common.{◌≡◌, ◌≢◌, ◌⊎◌, ℕ, ◌+◌, ◌/◌, ◌≤◌, nat_lt, if◌then◌else◌, true, false, List, [], ◌∷◌, inl, inr, ⊎_elim, sym, refl, ap, ◌∙◌, subst, arith}
+use Rattle.std.proofs.lemmas.Bool.{cond_both, ltb-false, ltb-true, or_parts}
 use Rattle.std.proofs.lemmas.Option.{same_Some}
 use Rattle.std.specs.List.{cons_option}
 use Rattle.std.specs.Option.{option_map, option_or}
-use Rattle.std.specs.Prelude.{Bool, Option, Some, None}
+use Rattle.std.specs.Prelude.{Bool, Option, Some, None, is_some}
 use Rattle.art_cell.specs.Children.{link_in_pool, number_of}
 use Rattle.art_cell.specs.declared.cells.Link.{Link}
 use Rattle.art_cell.specs.declared.cells.Link.TheVariants.{Leaf as leaf, Node as node}
 use Rattle.art_cell.specs.declared.cells.Node.{Node}
-use Rattle.art_cell.specs.declared.layouts.Layout.{Layout}
-use Rattle.art_cell.specs.declared.layouts.Layout.TheVariants.{Node4, Node16, Node48, Node256}
-use Rattle.art_cell.specs.declared.layouts.Pool.TheVariants.{Leaves}
+use Rattle.art_cell.specs.declared.cells.Layout.{Layout}
+use Rattle.art_cell.specs.declared.cells.Layout.TheVariants.{Node4, Node16, Node48, Node256}
+use Rattle.art_cell.specs.declared.cells.Pool.TheVariants.{Leaves}
 use Rattle.art_make.specs.ArtCommit.CommitLaws.{HasNode}
 use Rattle.art_epoch.specs.Taking.{TookLowest}
-use Rattle.art_epoch.specs.Stocks.{AreIn, HasStock, IsIn, count_in, first_in, hinted, hinted_at, node_in, node_link, nothing, one_of, set_node, with_leaf, with_node, without, without_all, words_written}
+use Rattle.art_epoch.specs.Stocks.{AreIn, GoesFirst, HasRankBy, HasStock, IsIn, count_in, earlier, first_in, first_layout, first_node, has_node, hinted, hinted_at, is_before, next_rank, node_in, node_link, nothing, one_of, rank_in, ranked_node, set_node, with_leaf, with_node, without, without_all, words_written}
 use Rattle.art_epoch.specs.declared.stocks.Hints.{Hints}
+use Rattle.art_epoch.specs.declared.stocks.RankedNode.{RankedNode}
 use Rattle.art_epoch.specs.declared.stocks.Stock.{Stock}
 use Rattle.art_make.specs.Apply.{IsCommitted, linked}
 use Rattle.art_make.specs.LeafWriter.{IsPacked}
@@ -39,17 +41,20 @@ node_by_leaf Node48 s o b = refl
 node_by_leaf Node256 s o b = refl
 
 -- another node leaves the leaf
-leaf_by_node : (layout : Layout) (o : Option ℕ) (s : Stock) → ((set_node layout o s).leaf ≡ s.leaf) × ((set_node layout o s).written ≡ s.written)
+leaf_by_node : (layout : Layout) (o : Option RankedNode) (s : Stock) → ((set_node layout o s).leaf ≡ s.leaf) × ((set_node layout o s).written ≡ s.written)
 leaf_by_node Node4 o s = (refl, refl)
 leaf_by_node Node16 o s = (refl, refl)
 leaf_by_node Node48 o s = (refl, refl)
 leaf_by_node Node256 o s = (refl, refl)
 
-node_here : (layout : Layout) (o : Option ℕ) (s : Stock) → node_in (set_node layout o s) layout ≡ o
-node_here Node4 o s = refl
-node_here Node16 o s = refl
-node_here Node48 o s = refl
-node_here Node256 o s = refl
+ranked_here : (layout : Layout) (o : Option RankedNode) (s : Stock) → ranked_node (set_node layout o s) layout ≡ o
+ranked_here Node4 o s = refl
+ranked_here Node16 o s = refl
+ranked_here Node48 o s = refl
+ranked_here Node256 o s = refl
+
+node_here : (layout : Layout) (o : Option RankedNode) (s : Stock) → node_in (set_node layout o s) layout ≡ option_map (λ (n : RankedNode). n.number) o
+node_here layout o s = ap (option_map (λ (n : RankedNode). n.number)) (ranked_here layout o s)
 
 -- where a search begins is nothing that is in hand
 node_with_leaf : (layout : Layout) (l : ℕ) (s : Stock) → node_in (with_leaf l s) layout ≡ node_in s layout
@@ -78,7 +83,7 @@ in_hinted (node m) s (node n) i = node_hinted n.layout m.layout (m.number / 64) 
 
 -- it is that of the layout, or another, whose number stays
 abbrev SameOrOther : Layout → Layout → Type 0
-SameOrOther a b = (a ≡ b) ⊎ ((o : Option ℕ) (s : Stock) → node_in (set_node a o s) b ≡ node_in s b)
+SameOrOther a b = (a ≡ b) ⊎ ((o : Option RankedNode) (s : Stock) → node_in (set_node a o s) b ≡ node_in s b)
 
 same_or_other : (a b : Layout) → SameOrOther a b
 same_or_other Node4 Node4 = inl refl
@@ -107,7 +112,7 @@ without_is s (leaf l) (node n) i = (sym (node_by_leaf n.layout s None false) ∙
 without_is s (node n) (leaf m) i = (sym ((leaf_by_node n.layout None s).0) ∙ i, λ e. absurd (cc))
 without_is s (node n) (node m) i = ⊎_elim
     (λ (same : n.layout ≡ m.layout). let none : node_in (set_node n.layout None s) m.layout ≡ None = subst (λ (a : Layout). node_in (set_node n.layout None s) a ≡ None) same (node_here n.layout None s) in absurd (cc))
-    (λ (other : (o : Option ℕ) (t : Stock) → node_in (set_node n.layout o t) m.layout ≡ node_in t m.layout). (
+    (λ (other : (o : Option RankedNode) (t : Stock) → node_in (set_node n.layout o t) m.layout ≡ node_in t m.layout). (
       sym (other None s) ∙ i,
       λ e. let same : m.layout ≡ n.layout = ap layout_of e in let none : node_in (set_node n.layout None s) m.layout ≡ None = subst (λ (a : Layout). node_in (set_node n.layout None s) a ≡ None) (sym same) (node_here n.layout None s) in absurd (cc),
     ))
@@ -124,7 +129,7 @@ without_has s (leaf l) (node n) i j other = node_by_leaf n.layout s None false �
 without_has s (node n) (leaf m) i j other = (leaf_by_node n.layout None s).0 ∙ j
 without_has s (node n) (node m) i j other = ⊎_elim
     (λ (same : n.layout ≡ m.layout). absurd (other (one same)))
-    (λ (apart : (o : Option ℕ) (t : Stock) → node_in (set_node n.layout o t) m.layout ≡ node_in t m.layout). apart None s ∙ j)
+    (λ (apart : (o : Option RankedNode) (t : Stock) → node_in (set_node n.layout o t) m.layout ≡ node_in t m.layout). apart None s ∙ j)
     (same_or_other n.layout m.layout)
   where
     one : n.layout ≡ m.layout → node m ≡ node n
@@ -167,17 +172,81 @@ node_of_link s layout d is = by_number (node_in s layout) refl is
 
 -- it is among them
 pub first_is_in : (s : Stock) (d : Link) → first_in s ≡ Some d → IsIn s d
-first_is_in s d is = ⊎_elim
-    (λ (low : option_or (option_map leaf s.leaf) (option_or (node_link s Node4) (node_link s Node16)) ≡ Some d). ⊎_elim
-    (λ (e : option_map leaf s.leaf ≡ Some d). by_leaf s.leaf refl e)
-    (λ (e : option_or (node_link s Node4) (node_link s Node16) ≡ Some d). ⊎_elim (node_of_link s Node4 d) (node_of_link s Node16 d) (some_of (node_link s Node4) (node_link s Node16) d e))
-    (some_of (option_map leaf s.leaf) _ d low))
-    (λ (high : option_or (node_link s Node48) (node_link s Node256) ≡ Some d). ⊎_elim (node_of_link s Node48 d) (node_of_link s Node256 d) (some_of (node_link s Node48) (node_link s Node256) d high))
-    (some_of _ (option_or (node_link s Node48) (node_link s Node256)) d is)
+first_is_in s d is = ⊎_elim (λ (e : option_map leaf s.leaf ≡ Some d). by_leaf s.leaf refl e) (node_of_link s (first_layout s) d) (some_of (option_map leaf s.leaf) _ d is)
   where
     by_leaf : (o : Option ℕ) → s.leaf ≡ o → option_map leaf o ≡ Some d → IsIn s d
     by_leaf None same e = absurd (cc)
     by_leaf (Some l) same e = subst (IsIn s) (same_Some (leaf l) d e) same
+
+abbrev rank_of : Option RankedNode → Option ℕ
+rank_of o = option_map (λ (n : RankedNode). n.rank) o
+
+-- of two layouts that whose node was taken first has the smaller rank
+module _ (s : Stock) (one other : Layout) (r : ℕ) where
+  abbrev IsBy : Option RankedNode → Type 0
+  IsBy o = (q : ℕ) × (rank_of o ≡ Some q) × (q ≤ r)
+
+  earlier_by : HasRankBy s one r ⊎ HasRankBy s other r → HasRankBy s (earlier s one other) r
+  earlier_by by = by_nodes (ranked_node s one) (ranked_node s other) refl refl by
+    where
+      first : (a : Option RankedNode) → ranked_node s one ≡ a → IsBy a → HasRankBy s one r
+      first a is k = subst IsBy (sym is) k
+
+      second : (b : Option RankedNode) → ranked_node s other ≡ b → IsBy b → HasRankBy s other r
+      second b is k = subst IsBy (sym is) k
+
+      by_nodes : (a b : Option RankedNode) → ranked_node s one ≡ a → ranked_node s other ≡ b → IsBy a ⊎ IsBy b → HasRankBy s (if is_before b a then other else one) r
+      by_nodes None None p q k = absurd (⊎_elim (λ (i : IsBy None). let no = i.1 in cc) (λ (i : IsBy None). let no = i.1 in cc) k)
+      by_nodes (Some a) None p q k = ⊎_elim (first (Some a) p) (λ (i : IsBy None). let no = i.1 in absurd (cc)) k
+      by_nodes None (Some b) p q k = ⊎_elim (λ (i : IsBy None). let no = i.1 in absurd (cc)) (second (Some b) q) k
+      by_nodes (Some a) (Some b) p q k = cond_both (nat_lt b.rank a.rank) other one (λ (layout : Layout). HasRankBy s layout r)
+          (λ (before : nat_lt b.rank a.rank ≡ true). second (Some b) q (b.rank, refl, ⊎_elim (λ (i : IsBy (Some a)). let same : a.rank ≡ i.0 = same_Some a.rank i.0 i.1 in let low = i.2 in let lt = ltb-true b.rank a.rank before in omega (arith, same, low, lt)) (λ (i : IsBy (Some b)). let same : b.rank ≡ i.0 = same_Some b.rank i.0 i.1 in let low = i.2 in omega (arith, same, low)) k))
+          (λ (behind : nat_lt b.rank a.rank ≡ false). first (Some a) p (a.rank, refl, ⊎_elim (λ (i : IsBy (Some a)). let same : a.rank ≡ i.0 = same_Some a.rank i.0 i.1 in let low = i.2 in omega (arith, same, low)) (λ (i : IsBy (Some b)). let same : b.rank ≡ i.0 = same_Some b.rank i.0 i.1 in let low = i.2 in let ge = ltb-false b.rank a.rank behind in omega (arith, same, low, ge)) k))
+
+-- where no node is in hand, none was taken first
+pub none_first : (s : Stock) → has_node s ≡ false → first_node s ≡ None
+none_first s none = ap (λ (o : Option RankedNode). option_map (λ (i : ℕ). node (record { layout = first_layout s; number = i })) (option_map (λ (n : RankedNode). n.number) o)) (by_layout (first_layout s))
+  where
+    is_none : (o : Option RankedNode) → is_some o ≡ false → o ≡ None
+    is_none None e = refl
+    is_none (Some n) e = absurd (cc)
+
+    by_layout : (layout : Layout) → ranked_node s layout ≡ None
+    by_layout Node4 = is_none s.node4 (or_parts _ _ (or_parts _ _ (or_parts _ _ none).0).0).0
+    by_layout Node16 = is_none s.node16 (or_parts _ _ (or_parts _ _ (or_parts _ _ none).0).0).1
+    by_layout Node48 = is_none s.node48 (or_parts _ _ (or_parts _ _ none).0).1
+    by_layout Node256 = is_none s.node256 (or_parts _ _ none).1
+
+-- none was taken before that of the first layout
+earliest : (s : Stock) (other : Layout) (r : ℕ) → rank_in s other ≡ Some r → HasRankBy s (first_layout s) r
+earliest s other r is = by_layout other (r, is, omega arith)
+  where
+    large : HasRankBy s Node48 r ⊎ HasRankBy s Node256 r → HasRankBy s (earlier s Node48 Node256) r
+    large by = earlier_by s Node48 Node256 r by
+
+    but_small : HasRankBy s Node16 r ⊎ HasRankBy s (earlier s Node48 Node256) r → HasRankBy s (earlier s Node16 (earlier s Node48 Node256)) r
+    but_small by = earlier_by s Node16 (earlier s Node48 Node256) r by
+
+    all : HasRankBy s Node4 r ⊎ HasRankBy s (earlier s Node16 (earlier s Node48 Node256)) r → HasRankBy s (earlier s Node4 (earlier s Node16 (earlier s Node48 Node256))) r
+    all by = earlier_by s Node4 (earlier s Node16 (earlier s Node48 Node256)) r by
+
+    by_layout : (layout : Layout) → HasRankBy s layout r → HasRankBy s (first_layout s) r
+    by_layout Node4 k = all (inl k)
+    by_layout Node16 k = all (inr (but_small (inl k)))
+    by_layout Node48 k = all (inr (but_small (inr (large (inl k)))))
+    by_layout Node256 k = all (inr (but_small (inr (large (inr k)))))
+
+-- it is the leaf, or the node that was taken first
+pub goes_first : (s : Stock) (d : Link) → first_in s ≡ Some d → GoesFirst s d
+goes_first s d is = by_leaf s.leaf refl is
+  where
+    by_layout : (layout : Layout) (o : Option ℕ) → s.leaf ≡ None → layout ≡ first_layout s → option_map (λ (i : ℕ). node (record { layout = layout; number = i })) o ≡ Some d → GoesFirst s d
+    by_layout layout None none at e = absurd (cc)
+    by_layout layout (Some i) none at e = subst (GoesFirst s) (same_Some (node (record { layout = layout; number = i })) d e) (none, λ other r rank. subst (λ (a : Layout). HasRankBy s a r) (sym at) (earliest s other r rank))
+
+    by_leaf : (o : Option ℕ) → s.leaf ≡ o → option_or (option_map leaf o) (first_node s) ≡ Some d → GoesFirst s d
+    by_leaf None none e = by_layout (first_layout s) (node_in s (first_layout s)) none refl e
+    by_leaf (Some l) some e = subst (GoesFirst s) (same_Some (leaf l) d e) some
 
 none_of : (a b : Option Link) → option_or a b ≡ None → (a ≡ None) × (b ≡ None)
 none_of None b is = (refl, is)
@@ -186,25 +255,25 @@ none_of (Some e) b is = absurd (cc)
 no_number : (f : ℕ → Link) (o : Option ℕ) (i : ℕ) → option_map f o ≡ None → o ≡ Some i → ⊥
 no_number f o i none some = let is : option_map f o ≡ Some (f i) = ap (option_map f) some in cc
 
+-- a node in hand has a rank, and one with a rank a number
+other_part : (f g : RankedNode → ℕ) (o : Option RankedNode) (i : ℕ) → option_map f o ≡ Some i → (j : ℕ) × (option_map g o ≡ Some j)
+other_part f g None i is = absurd (cc)
+other_part f g (Some n) i is = (g n, refl)
+
 -- where there is no first, there is none
 pub none_is_in : (s : Stock) (d : Link) → first_in s ≡ None → IsIn s d → ⊥
 none_is_in s d none = by_link d
   where
-    parts : (option_or (option_map leaf s.leaf) (option_or (node_link s Node4) (node_link s Node16)) ≡ None) × (option_or (node_link s Node48) (node_link s Node256) ≡ None)
+    parts : (option_map leaf s.leaf ≡ None) × (first_node s ≡ None)
     parts = none_of _ _ none
 
-    low : (option_map leaf s.leaf ≡ None) × (option_or (node_link s Node4) (node_link s Node16) ≡ None)
-    low = none_of _ _ parts.0
-
-    by_layout : (layout : Layout) → node_link s layout ≡ None
-    by_layout Node4 = (none_of _ _ low.1).0
-    by_layout Node16 = (none_of _ _ low.1).1
-    by_layout Node48 = (none_of _ _ parts.1).0
-    by_layout Node256 = (none_of _ _ parts.1).1
-
     by_link : (e : Link) → IsIn s e → ⊥
-    by_link (leaf l) i = no_number leaf s.leaf l low.0 i
-    by_link (node n) i = no_number _ (node_in s n.layout) n.number (by_layout n.layout) i
+    by_link (leaf l) i = no_number leaf s.leaf l parts.0 i
+    by_link (node n) i =
+        let rank = other_part (λ n. n.number) (λ n. n.rank) (ranked_node s n.layout) n.number i in
+        let first = earliest s n.layout rank.0 rank.1 in
+        let number = other_part (λ n. n.rank) (λ n. n.number) (ranked_node s (first_layout s)) first.0 first.1 in
+        no_number _ (node_in s (first_layout s)) number.0 parts.1 number.1
 
 -- as one leaves there is one fewer
 pub one_fewer : (s : Stock) (d : Link) → IsIn s d → count_in (without d s) + 1 ≡ count_in s
@@ -212,13 +281,13 @@ one_fewer s (leaf l) i = let one : one_of s.leaf ≡ 1 = ap one_of i in omega (a
 one_fewer s (node n) i = by_layout n.layout i
   where
     by_layout : (layout : Layout) → node_in s layout ≡ Some n.number → count_in (set_node layout None s) + 1 ≡ count_in s
-    by_layout Node4 e = let one : one_of s.node4 ≡ 1 = ap one_of e in omega (arith, one)
-    by_layout Node16 e = let one : one_of s.node16 ≡ 1 = ap one_of e in omega (arith, one)
-    by_layout Node48 e = let one : one_of s.node48 ≡ 1 = ap one_of e in omega (arith, one)
-    by_layout Node256 e = let one : one_of s.node256 ≡ 1 = ap one_of e in omega (arith, one)
+    by_layout Node4 e = let one : one_of (node_in s Node4) ≡ 1 = ap one_of e in omega (arith, one)
+    by_layout Node16 e = let one : one_of (node_in s Node16) ≡ 1 = ap one_of e in omega (arith, one)
+    by_layout Node48 e = let one : one_of (node_in s Node48) ≡ 1 = ap one_of e in omega (arith, one)
+    by_layout Node256 e = let one : one_of (node_in s Node256) ≡ 1 = ap one_of e in omega (arith, one)
 
 pub at_most_five : (s : Stock) → count_in s ≤ 5
-at_most_five s = let a = few s.leaf in let b = few s.node4 in let c = few s.node16 in let d = few s.node48 in let e = few s.node256 in omega (arith, a, b, c, d, e)
+at_most_five s = let a = few s.leaf in let b = few (node_in s Node4) in let c = few (node_in s Node16) in let d = few (node_in s Node48) in let e = few (node_in s Node256) in omega (arith, a, b, c, d, e)
   where
     few : (o : Option ℕ) → one_of o ≤ 1
     few None = omega arith
@@ -358,18 +427,21 @@ taken_node layout d = record { layout = layout; number = number_of d }
 pub stock_took_node : (z : Sizes) (k : List ℕ) (value : ℕ) (v w : View) (layout : Layout) (d : Link) (s : Stock) → TookLowest z v w (pool_of_layout layout) d → node_in s layout ≡ None → HasStock z k value v s → HasStock z k value w (with_node (taken_node layout d) s)
 stock_took_node z k value v w layout d s t none o = record {
   leaf = λ l is.
-      let words : words_written s ≡ words_written (with_node (taken_node layout d) s) = ap (λ (b : Bool). words_of b) (sym (leaf_by_node layout (Some (number_of d)) noted).1) in
-      subst (IsPacked z w l k value) words (packed_on z v w l k value (words_written s) (λ x i. subst (Member x) (sym t.hand) (inr i.0)) (o.leaf l (sym (leaf_by_node layout (Some (number_of d)) noted).0 ∙ is)));
+      let words : words_written s ≡ words_written (with_node (taken_node layout d) s) = ap (λ (b : Bool). words_of b) (sym (leaf_by_node layout (Some ranked) noted).1) in
+      subst (IsPacked z w l k value) words (packed_on z v w l k value (words_written s) (λ x i. subst (Member x) (sym t.hand) (inr i.0)) (o.leaf l (sym (leaf_by_node layout (Some ranked) noted).0 ∙ is)));
   nodes = λ n is. ⊎_elim
       (λ (same : layout ≡ n.layout). subst (HasNode z w) (one n same is) has)
-      (λ (other : (p : Option ℕ) (r : Stock) → node_in (set_node layout p r) n.layout ≡ node_in r n.layout). node_on z v w n (λ x i. subst (Member x) (sym t.hand) (inr i.0)) (o.nodes n (sym (other _ noted ∙ node_hinted n.layout layout (number_of d / 64) s) ∙ is)))
+      (λ (other : (p : Option RankedNode) (r : Stock) → node_in (set_node layout p r) n.layout ≡ node_in r n.layout). node_on z v w n (λ x i. subst (Member x) (sym t.hand) (inr i.0)) (o.nodes n (sym (other _ noted ∙ node_hinted n.layout layout (number_of d / 64) s) ∙ is)))
       (same_or_other layout n.layout);
   only = λ x i. ⊎_elim
-      (λ (e : x ≡ record { link = d; words = t.words }). subst (IsIn (with_node (taken_node layout d) s)) (sym (ap (λ (y : InHand). y.link) e ∙ named)) (node_here layout (Some (number_of d)) noted))
+      (λ (e : x ≡ record { link = d; words = t.words }). subst (IsIn (with_node (taken_node layout d) s)) (sym (ap (λ (y : InHand). y.link) e ∙ named)) (node_here layout (Some ranked) noted))
       (λ (j : Member x v.hand). on x.link (o.only x j))
       (subst (Member x) t.hand i);
 }
   where
+    ranked : RankedNode
+    ranked = record { number = number_of d; rank = next_rank s }
+
     noted : Stock
     noted = hinted layout (number_of d / 64) s
 
@@ -396,12 +468,12 @@ stock_took_node z k value v w layout d s t none o = record {
 
     one : (n : Node) → layout ≡ n.layout → node_in (with_node (taken_node layout d) s) n.layout ≡ Some n.number → taken_node layout d ≡ n
     one n same is =
-        let number : number_of d ≡ n.number = same_Some (number_of d) n.number (sym (node_here layout (Some (number_of d)) noted) ∙ (ap (node_in (with_node (taken_node layout d) s)) same ∙ is)) in
+        let number : number_of d ≡ n.number = same_Some (number_of d) n.number (sym (node_here layout (Some ranked) noted) ∙ (ap (node_in (with_node (taken_node layout d) s)) same ∙ is)) in
         ap (λ (i : ℕ). record { layout = layout; number = i }) number ∙ ap (λ (a : Layout). record { layout = a; number = n.number }) same
 
     on : (e : Link) → IsIn s e → IsIn (with_node (taken_node layout d) s) e
-    on (leaf l) i = (leaf_by_node layout (Some (number_of d)) noted).0 ∙ i
+    on (leaf l) i = (leaf_by_node layout (Some ranked) noted).0 ∙ i
     on (node n) i = ⊎_elim
         (λ (same : layout ≡ n.layout). let gone : node_in s n.layout ≡ None = subst (λ (a : Layout). node_in s a ≡ None) same none in absurd (cc))
-        (λ (other : (p : Option ℕ) (r : Stock) → node_in (set_node layout p r) n.layout ≡ node_in r n.layout). other _ noted ∙ node_hinted n.layout layout (number_of d / 64) s ∙ i)
+        (λ (other : (p : Option RankedNode) (r : Stock) → node_in (set_node layout p r) n.layout ≡ node_in r n.layout). other _ noted ∙ node_hinted n.layout layout (number_of d / 64) s ∙ i)
         (same_or_other layout n.layout)

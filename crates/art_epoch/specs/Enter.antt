@@ -9,9 +9,9 @@ use Rattle.art_epoch.specs.Reclaiming.{Look, OnlyReclaims, Reclaims, least_at, p
 use Rattle.art_machine.specs.declared.actions.Action.{Action}
 use Rattle.art_machine.specs.declared.actions.Action.TheVariants.{ReadPin}
 use Rattle.art_epoch.specs.declared.limbo.Place.{Place}
-use Rattle.art_epoch.specs.declared.pins.Pinning.{Pinning}
-use Rattle.art_epoch.specs.declared.pins.Pinning.TheVariants.{Noting}
-use Rattle.art_epoch.specs.declared.reclaiming.Reclaiming.{Reclaiming}
+use Rattle.art_epoch.specs.declared.enter.Pinning.{Pinning}
+use Rattle.art_epoch.specs.declared.enter.Pinning.TheVariants.{Noting}
+use Rattle.art_epoch.specs.declared.limbo.Reclaiming.{Reclaiming}
 use Rattle.art_epoch.specs.declared.enter.Blocker.{Blocker}
 use Rattle.art_epoch.specs.declared.enter.Entered.{Entered}
 use Rattle.art_epoch.specs.declared.enter.Entered.TheVariants.{Pinned, Crowded}

@@ -7,9 +7,9 @@ use Rattle.art_epoch.specs.Pins.{view_advanced}
 use Rattle.art_machine.specs.declared.actions.Action.{Action}
 use Rattle.art_machine.specs.declared.actions.Action.TheVariants.{Free, ReadEpoch, RaiseEpoch, ReadPin}
 use Rattle.art_epoch.specs.declared.limbo.Place.{Place}
-use Rattle.art_epoch.specs.declared.reclaiming.ReclaimStage.{ReclaimStage}
-use Rattle.art_epoch.specs.declared.reclaiming.ReclaimStage.TheVariants.{Noting, Raising, Watching, Freeing}
-use Rattle.art_epoch.specs.declared.reclaiming.Reclaiming.{Reclaiming}
+use Rattle.art_epoch.specs.declared.limbo.ReclaimStage.{ReclaimStage}
+use Rattle.art_epoch.specs.declared.limbo.ReclaimStage.TheVariants.{Noting, Raising, Watching, Freeing}
+use Rattle.art_epoch.specs.declared.limbo.Reclaiming.{Reclaiming}
 use Rattle.art_step.specs.declared.views.Retired.{Retired}
 use Rattle.art_step.specs.declared.views.Sizes.{Sizes}
 use Rattle.art_step.specs.declared.views.View.{View}
@@ -136,6 +136,13 @@ least_at Noting = None
 least_at Raising = None
 least_at (Watching q least) = least
 least_at (Freeing least n) = least
+
+-- the pass whose word is to be found, if it is at one
+abbrev pub watches_at : ReclaimStage → Option ℕ
+watches_at Noting = None
+watches_at Raising = None
+watches_at (Watching q least) = Some q
+watches_at (Freeing least n) = None
 
 abbrev pub freed_at : ReclaimStage → ℕ
 freed_at Noting = 0

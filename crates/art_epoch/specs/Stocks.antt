@@ -1,20 +1,21 @@
 -- The numbers that a pass has in hand, as its code and as its view have them.
-use Rattle.std.specs.Prelude.{◌≡◌, ℕ, ◌+◌, ◌*◌, ◌/◌, List, [], ◌∷◌, Option, Some, None, false, if◌then◌else◌, nat_lt, ⊤}
+use Rattle.std.specs.Prelude.{◌≡◌, ℕ, ◌+◌, ◌-◌, ◌*◌, ◌/◌, ◌^◌, ◌<◌, ◌≤◌, min, max, List, [], ◌∷◌, Option, Some, None, is_some, Bool, true, false, ◌||◌, if◌then◌else◌, nat_lt, ⊤}
 use Rattle.std.specs.Option.{option_map, option_or}
 use Rattle.art_cell.specs.declared.cells.Link.{Link}
 use Rattle.art_cell.specs.declared.cells.Link.TheVariants.{Leaf as leaf, Node as node}
 use Rattle.art_cell.specs.declared.cells.Node.{Node}
-use Rattle.art_cell.specs.declared.layouts.Layout.{Layout}
-use Rattle.art_cell.specs.declared.layouts.Layout.TheVariants.{Node4, Node16, Node48, Node256}
-use Rattle.art_cell.specs.declared.layouts.Pool.{Pool}
-use Rattle.art_cell.specs.declared.layouts.Pool.TheVariants.{Leaves, N4, N16, N48, N256}
+use Rattle.art_cell.specs.declared.cells.Layout.{Layout}
+use Rattle.art_cell.specs.declared.cells.Layout.TheVariants.{Node4, Node16, Node48, Node256}
+use Rattle.art_cell.specs.declared.cells.Pool.{Pool}
+use Rattle.art_cell.specs.declared.cells.Pool.TheVariants.{Leaves, N4, N16, N48, N256}
 use Rattle.art_make.specs.ArtCommit.CommitLaws.{HasNode}
 use Rattle.art_epoch.specs.declared.stocks.Hints.{Hints}
+use Rattle.art_epoch.specs.declared.stocks.RankedNode.{RankedNode}
 use Rattle.art_epoch.specs.declared.stocks.Stock.{Stock}
 use Rattle.art_make.specs.LeafWriter.{IsPacked}
 use Rattle.art_step.specs.Views.{Member}
 use Rattle.art_step.specs.declared.views.InHand.{InHand}
-use Rattle.art_step.specs.WordPlaces.{free_words, pool_size}
+use Rattle.art_step.specs.WordPlaces.{free_words}
 use Rattle.art_step.specs.declared.views.Sizes.{Sizes}
 use Rattle.art_step.specs.declared.views.View.{View}
 
@@ -43,12 +44,20 @@ hint_in s N16 = s.hints.n16
 hint_in s N48 = s.hints.n48
 hint_in s N256 = s.hints.n256
 
+-- the node of the layout, with its rank
+abbrev pub ranked_node : Stock → Layout → Option RankedNode
+ranked_node s Node4 = s.node4
+ranked_node s Node16 = s.node16
+ranked_node s Node48 = s.node48
+ranked_node s Node256 = s.node256
+
 -- the number of a node of the layout
 abbrev pub node_in : Stock → Layout → Option ℕ
-node_in s Node4 = s.node4
-node_in s Node16 = s.node16
-node_in s Node48 = s.node48
-node_in s Node256 = s.node256
+node_in s layout = option_map (λ (n : RankedNode). n.number) (ranked_node s layout)
+
+-- its rank
+abbrev pub rank_in : Stock → Layout → Option ℕ
+rank_in s layout = option_map (λ (n : RankedNode). n.rank) (ranked_node s layout)
 
 -- the number is among them
 abbrev pub IsIn : Stock → Link → Type 0
@@ -61,8 +70,8 @@ IsIn s (node n) = node_in s n.layout ≡ Some n.number
 abbrev pub with_leaf : ℕ → Stock → Stock
 with_leaf l s = record s { leaf = Some l; written = false; hints = record s.hints { leaves = l / 64 } }
 
--- the number of a node of the layout is this one, or there is none
-abbrev pub set_node : Layout → Option ℕ → Stock → Stock
+-- the node of the layout is this one, or there is none
+abbrev pub set_node : Layout → Option RankedNode → Stock → Stock
 set_node Node4 o s = record s { node4 = o }
 set_node Node16 o s = record s { node16 = o }
 set_node Node48 o s = record s { node48 = o }
@@ -83,12 +92,26 @@ abbrev pub hinted_at : Link → Stock → Stock
 hinted_at (leaf l) s = record s { hints = record s.hints { leaves = l / 64 } }
 hinted_at (node n) s = hinted n.layout (n.number / 64) s
 
+-- the rank behind that of the node, as long as there is one
+abbrev pub rank_after : Option RankedNode → ℕ
+rank_after None = 0
+rank_after (Some n) = min (n.rank + 1) (2 ^ 32 - 1)
+
+-- the rank of a node that comes in
+abbrev pub next_rank : Stock → ℕ
+next_rank s = max (max (rank_after s.node4) (rank_after s.node16)) (max (rank_after s.node48) (rank_after s.node256))
+
 abbrev pub with_number : Layout → ℕ → Stock → Stock
-with_number layout i s = set_node layout (Some i) (hinted layout (i / 64) s)
+with_number layout i s = set_node layout (Some (record { number = i; rank = next_rank s })) (hinted layout (i / 64) s)
 
 -- a node comes in
 abbrev pub with_node : Node → Stock → Stock
 with_node n s = with_number n.layout n.number s
+
+-- the node of the layout that came in is behind each that was in hand, as long as there are ranks
+abbrev pub ComesLast : Stock → Stock → Layout → Type 0
+ComesLast s t layout =
+    (other : Layout) (r : ℕ) → rank_in s other ≡ Some r → r < 2 ^ 32 - 1 → (q : ℕ) × (rank_in t layout ≡ Some q) × (r < q)
 
 -- ---- one leaves
 
@@ -117,17 +140,40 @@ AreIn s (d ∷ ds) = IsIn s d × AreIn (without d s) ds
 abbrev pub node_link : Stock → Layout → Option Link
 node_link s layout = option_map (λ (i : ℕ). node (record { layout = layout; number = i })) (node_in s layout)
 
--- that of the one layout, or else of the other
-abbrev pub first_node : Stock → Layout → Layout → Option Link
-first_node s one other = option_or (node_link s one) (node_link s other)
+-- a node is in hand
+abbrev pub has_node : Stock → Bool
+has_node s = is_some s.node4 || is_some s.node16 || is_some s.node48 || is_some s.node256
 
--- the leaf, or else the first of the small nodes
-abbrev pub first_low : Stock → Option Link
-first_low s = option_or (option_map leaf s.leaf) (first_node s Node4 Node16)
+-- the node is there, and was taken before the other, if that is there
+abbrev pub is_before : Option RankedNode → Option RankedNode → Bool
+is_before None b = false
+is_before (Some a) None = true
+is_before (Some a) (Some b) = nat_lt a.rank b.rank
 
--- the first: the leaf, and then the nodes from the smallest layout on
+-- of two layouts that whose node was taken first, or that of which there is one
+abbrev pub earlier : Stock → Layout → Layout → Layout
+earlier s one other = if is_before (ranked_node s other) (ranked_node s one) then other else one
+
+-- the layout whose node was taken first, if a node is in hand
+abbrev pub first_layout : Stock → Layout
+first_layout s = earlier s Node4 (earlier s Node16 (earlier s Node48 Node256))
+
+-- the node that was taken first
+abbrev pub first_node : Stock → Option Link
+first_node s = node_link s (first_layout s)
+
+-- the first: the leaf, and then the nodes in the order in which they were taken
 abbrev pub first_in : Stock → Option Link
-first_in s = option_or (first_low s) (first_node s Node48 Node256)
+first_in s = option_or (option_map leaf s.leaf) (first_node s)
+
+-- there is a node of the layout, with this rank or one before it
+abbrev pub HasRankBy : Stock → Layout → ℕ → Type 0
+HasRankBy s layout r = (q : ℕ) × (rank_in s layout ≡ Some q) × (q ≤ r)
+
+-- it is the leaf, or there is none and no node that is in hand was taken before it
+abbrev pub GoesFirst : Stock → Link → Type 0
+GoesFirst s (leaf l) = s.leaf ≡ Some l
+GoesFirst s (node n) = (s.leaf ≡ None) × ((other : Layout) (r : ℕ) → rank_in s other ≡ Some r → HasRankBy s n.layout r)
 
 abbrev pub one_of : Option ℕ → ℕ
 one_of None = 0
@@ -135,7 +181,8 @@ one_of (Some i) = 1
 
 -- how many there are
 abbrev pub count_in : Stock → ℕ
-count_in s = one_of s.leaf + one_of s.node4 + one_of s.node16 + one_of s.node48 + one_of s.node256
+count_in s =
+    one_of s.leaf + one_of (node_in s Node4) + one_of (node_in s Node16) + one_of (node_in s Node48) + one_of (node_in s Node256)
 
 -- ---- in hand
 

@@ -1,7 +1,7 @@
-//! The opening of an attempt.
-ghost use Rattle.std.specs.Prelude.{◌≡◌, ◌+◌, ◌-◌, ◌<◌, ◌≤◌, length, Some, None};
+//! The opening of an attempt: what waits in limbo goes back, and the pass is pinned.
+ghost use Rattle.std.specs.Prelude.{◌≡◌, ◌+◌, ◌-◌, ◌<◌, ◌≤◌, length, Some, None, ℕ, List, IfSome, []};
 ghost use Rattle.std.specs.Option.{option_and_then};
-ghost use Rattle.art_machine.specs.Acting.{Answers, FindsWord, IsAllowed, IsWord, word_in};
+ghost use Rattle.art_machine.specs.Acting.{Answers, IsAllowed, IsWord, word_in};
 ghost use Rattle.art_epoch.specs.Limbo.{places_of};
 ghost use Rattle.art_epoch.specs.Pins as pins;
 ghost use Rattle.art_epoch.specs.Reclaiming as reclaims;
@@ -10,10 +10,14 @@ ghost use Rattle.art_machine.specs.declared.actions.Action.{Action as ActionOf};
 ghost use Rattle.art_epoch.specs.declared.limbo.Place.{Place as PlaceOf};
 ghost use Rattle.art_step.specs.declared.views.Sizes.{Sizes};
 ghost use Rattle.art_step.specs.declared.views.View.{View};
-ghost use Rattle.std.specs.Prelude.{ℕ, List, IfSome};
+ghost use Rattle.art_epoch.specs.Pins.{Advances, Fits, MayPin, Pins};
+ghost use Rattle.art_step.specs.Steps.Give as give;
+ghost use Rattle.art_step.specs.Steps.Pin as pin;
+ghost use Rattle.art_step.specs.Tokens.{link_of_number};
 
-use crate::{Limbo, Pinning, Place, Reclaiming, lets_go};
-use art_machine::{Action, Answer};
+use crate::{Limbo, Place, Reclaiming, lets_go};
+use art_machine::{Action, Answer, perform};
+use art_step::{EpochSteps, Number};
 
 /// How many places a limbo has.
 const PLACES: u32 = 64;
@@ -129,26 +133,23 @@ fn reclaimed(limbo: &mut Limbo, reclaiming: Reclaiming, blocker: Blocker, answer
     ensures next { result ≡ reclaimed reclaiming blocker (word_in answer) (places_of limbo.old) }
 {
     let mut reclaiming = reclaiming;
-    let found = watched(reclaiming.next(limbo), answer);
+    let found = watched(reclaiming, answer);
     let least = reclaiming.least();
     reclaiming.told(limbo, answer);
-    let label = first_label(limbo.places(), reclaiming.least());
-    let blocker = blocked_by(found, least, label, blocker);
+    let blocker = blocked_by(found, least, limbo.places(), reclaiming.least(), blocker);
     going_on(limbo, reclaiming, blocker)
 }
 
-/// The pass whose word was found by the step, and that word, if it was a pass's.
-fn watched(action: Option<Action>, answer: Answer) -> Option<Blocker>
-    requires { (a : ActionOf) → action ≡ Some a → FindsWord a → IsWord answer }
-    ensures { result ≡ option_and_then (watched (word_in answer)) action }
+/// The pass whose word the step found, and that word, if it was a pass's.
+fn watched(reclaiming: Reclaiming, answer: Answer) -> Option<Blocker>
+    requires { reclaims.HearsWord reclaiming.stage → IsWord answer }
+    ensures { (places : List PlaceOf) → result ≡ option_and_then (watched (word_in answer)) (reclaims.asks_at reclaiming.stage places) }
 {
-    match action? {
-        Action::ReadPin { pass } => Some(Blocker {
-            pass,
-            epoch: answer.word(),
-        }),
-        _ => None,
-    }
+    let pass = reclaiming.watches()?;
+    Some(Blocker {
+        pass,
+        epoch: answer.word(),
+    })
 }
 
 /// The label of the first place that is not below the least word, if there is one.
@@ -163,19 +164,21 @@ fn first_label(places: &[Place], least: Option<u64>) -> Option<u64>
     None
 }
 
-/// The pass that was found blocks the first place that stays, if that could have gone before.
+/// The pass that was found blocks the first place that stays under the lowest word, if that could have gone before. The place is looked
+/// for only where a pass was found.
 fn blocked_by(
     found: Option<Blocker>,
     least: Option<u64>,
-    label: Option<u64>,
+    places: &[Place],
+    lowest: Option<u64>,
     blocker: Blocker,
 ) -> Blocker
-    ensures { result ≡ blocked_by found least label blocker }
+    ensures { result ≡ blocked_by found least (first_label lowest places.now) blocker }
 {
     let Some(found) = found else {
         return blocker;
     };
-    let Some(label) = label else {
+    let Some(label) = first_label(places, lowest) else {
         return blocker;
     };
     if lets_go(least, label) {
@@ -215,4 +218,103 @@ fn pinned(pinning: Pinning, answer: Answer) -> Enter
         Some(_) => Enter::Pinning(pinning),
         None => Enter::Ended(Entered::Pinned),
     }
+}
+
+/// Pins a pass that is idle to the epoch: it notes the epoch and stores it in its own word.
+#[derive(Clone, Copy)]
+pub enum Pinning {
+    /// The epoch is to be noted.
+    Noting,
+    /// It is to be stored.
+    Storing(u64),
+    /// The pass is pinned.
+    Ended,
+}
+
+impl Pinning {
+    ghost use Rattle.std.specs.Prelude.{ℕ, Some};
+    ghost use Rattle.art_machine.specs.declared.actions.Action.{Action as ActionOf};
+    ghost use Rattle.art_machine.specs.declared.actions.Action.TheVariants.{ReadEpoch as read_epoch};
+    ghost use Rattle.art_step.specs.declared.views.Sizes.{Sizes};
+    ghost use Rattle.art_step.specs.declared.views.View.{View};
+
+    /// The machine at its beginning.
+    pub fn new() -> Pinning
+        ensures asks { pins.asks result ≡ Some read_epoch }
+        ensures fits { (z : Sizes) (v : View) → MayPin v → Fits z v result v }
+    {
+        Pinning::Noting
+    }
+
+    /// The next step, or none where it has ended.
+    pub fn next(&self) -> Option<Action>
+        ensures asks { result ≡ pins.asks self.now }
+        ensures allowed { (z : Sizes) (v0 v : View) → Fits z v0 self.now v → IfSome result (IsAllowed z None v) }
+        ensures ended { (z : Sizes) (v0 v : View) → Fits z v0 self.now v → result ≡ None → Pins z v0 v }
+    {
+        match self {
+            Pinning::Noting => Some(Action::ReadEpoch),
+            Pinning::Storing(epoch) => Some(Action::StorePin { word: *epoch }),
+            Pinning::Ended => None,
+        }
+    }
+
+    /// The step that it asked for was made, and answered so.
+    pub fn told(&mut self, answer: Answer)
+        requires { (z : Sizes) × (v0 : View) × (v : View) × (w : View) × (action : ActionOf) × Fits z v0 self.old v ×
+            (pins.asks self.old ≡ Some action) × Answers z None action answer v w }
+        ensures left { pins.steps_left self.new ≡ pins.steps_left self.old - 1 }
+        ensures fits { (z : Sizes) (v0 v w : View) (action : ActionOf) → Fits z v0 self.old v → pins.asks self.old ≡ Some action →
+            Answers z None action answer v w → Fits z v0 self.new w }
+    {
+        *self = match self {
+            Pinning::Noting => Pinning::Storing(answer.word()),
+            _ => Pinning::Ended,
+        };
+    }
+}
+
+/// Pins the pass, which is idle and holds nothing, to the epoch.
+pub fn pin<S: EpochSteps>(steps: &mut S)
+    requires { MayPin (S.view steps.old) }
+    ensures only { S.only steps.old steps.new }
+    ensures pins { Pins (S.sizes steps.old) (S.view steps.old) (S.view steps.new) }
+{
+    let mut pinning = Pinning::new();
+    while let Some(action) = pinning.next() {
+        let answer = perform(steps, action, None);
+        pinning.told(answer);
+    }
+}
+
+/// The pass, which holds nothing, goes idle: all its stamps go.
+pub fn unpin<S: EpochSteps>(steps: &mut S)
+    requires { (S.view steps.old).held ≡ [] }
+    ensures only { S.only steps.old steps.new }
+    ensures row { pin.Outcome (S.view steps.old) (S.view steps.new) 0 }
+{
+    steps.pass_store(0);
+}
+
+/// The epoch at which it no longer rises.
+pub(crate) const TOP: u64 = 1 << 62;
+
+/// Raises the epoch, where that is not at its top.
+pub fn advance<S: EpochSteps>(steps: &mut S)
+    ensures only { S.only steps.old steps.new }
+    ensures advances { Advances (S.sizes steps.old) (S.view steps.old) (S.view steps.new) }
+{
+    let epoch = steps.epoch();
+    if epoch < TOP {
+        steps.epoch_add();
+    }
+}
+
+/// A number in hand, of a cell that is not held, is free again.
+pub fn give<S: EpochSteps>(steps: &mut S, number: Number)
+    requires { give.May (S.view steps.old) (link_of_number number) }
+    ensures only { S.only steps.old steps.new }
+    ensures row { give.Outcome (S.view steps.old) (S.view steps.new) (link_of_number number) }
+{
+    steps.bits_set(number);
 }

@@ -5,11 +5,11 @@ ghost use Rattle.art_machine.specs.Acting.{Answers, IsAllowed};
 ghost use Rattle.art_epoch.specs.Limbo.{IsLimbo, places_of};
 ghost use Rattle.art_epoch.specs.Reclaiming.{Retires};
 ghost use Rattle.art_machine.specs.declared.actions.Action.{Action as ActionOf};
-ghost use Rattle.art_machine.specs.declared.actions.Action.TheVariants.{ReadEpoch as read_epoch};
+ghost use Rattle.art_machine.specs.declared.actions.Action.TheVariants.{GiveBack as give_back, ReadEpoch as read_epoch};
 ghost use Rattle.art_machine.specs.declared.actions.Answer.TheVariants.{Word as word_told};
 ghost use Rattle.art_epoch.specs.declared.limbo.Place.{Place};
 ghost use Rattle.art_epoch.specs.Exit.{ExitFits, IsClosed, MayClose, asks, begins, gives, is_ended, stage_given, steps_left, stock_given};
-ghost use Rattle.art_epoch.specs.Stocks.{first_in};
+ghost use Rattle.art_epoch.specs.Stocks.{GoesFirst, first_in};
 ghost use Rattle.art_epoch.specs.declared.exit.Exit.TheVariants.{Giving as giving};
 ghost use Rattle.art_epoch.specs.declared.stocks.Stock.{Stock as StockOf};
 ghost use Rattle.art_step.specs.Tokens.{links_of};
@@ -50,6 +50,7 @@ impl Exit {
         ensures asks { result ≡ asks self.now stock.now }
         ensures allowed { (z : Sizes) (k : List ℕ) (value : ℕ) (u v : View) (ps qs : List Place) (us : List LinkOf) →
             ExitFits z k value u ps us self.now qs stock.now v → IfSome result (IsAllowed z None v) }
+        ensures order { (d : LinkOf) → result ≡ Some (give_back d) → GoesFirst stock.now d }
     {
         match self {
             Exit::Labelling => Some(Action::ReadEpoch),

@@ -100,8 +100,8 @@
 //! anew with them; what a commit links is taken out (`spend_leaf`, `spend_node`).
 //!
 //! `Exit` notes the epoch first, if something was unlinked, before anything else finds one: it labels what came to limbo.
-//! Then the numbers of the stock go back, the leaf and then the nodes from the smallest layout on, each in one step, and without
-//! a look at any other. Last, 0 is stored.
+//! Then the numbers of the stock go back, the leaf and then the nodes in the order in which they were taken, each in one step, and
+//! without a look at any other. Last, 0 is stored.
 //!
 //! What both know between two steps is in `EnterFits` and `ExitFits`, of the view at the beginning and the view now. When an `Enter`
 //! has ended (`HasEnded`), either the pass is pinned and four places are free (`IsOpened`), or nothing changed but that what might
@@ -129,15 +129,9 @@
 mod enter;
 mod exit;
 mod limbo;
-mod pins;
-mod reclaiming;
 mod stocks;
-mod taking;
 
-pub use enter::{Blocker, Enter, Entered};
+pub use enter::{Blocker, Enter, Entered, Pinning, advance, give, pin, unpin};
 pub use exit::Exit;
-pub use limbo::{Limbo, Place, lets_go};
-pub use pins::{Pinning, advance, give, pin, unpin};
-pub use reclaiming::{ReclaimStage, Reclaiming, Retiring, reclaim, retire};
-pub use stocks::Stock;
-pub use taking::{Search, Taking, take};
+pub use limbo::{Limbo, Place, ReclaimStage, Reclaiming, Retiring, lets_go, reclaim, retire};
+pub use stocks::{Search, Stock, Taking, take};

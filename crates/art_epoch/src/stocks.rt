@@ -1,9 +1,13 @@
-//! The numbers that a pass has in hand.
-ghost use Rattle.std.specs.Prelude.{◌≡◌, ◌<◌, ◌^◌, true};
-ghost use Rattle.art_epoch.specs.Stocks.{first_hints, first_word, nothing, with_leaf, with_node};
+//! The numbers that a pass has in hand, and how it takes one.
+ghost use Rattle.std.specs.Prelude.{◌≡◌, ◌<◌, ◌^◌, true, ◌+◌, ◌*◌, ◌≤◌, IfSome, Some, None};
+ghost use Rattle.art_epoch.specs.Stocks.{ComesLast, first_hints, first_word, is_before, nothing, rank_after, with_leaf, with_node};
+ghost use Rattle.art_machine.specs.Acting.{Answers, IsAllowed};
+ghost use Rattle.art_epoch.specs.Taking.{Fits, IsSearch, MadeFew, OnlyTakes, Takes, after_clear, after_look, around, asks, search_after};
+ghost use Rattle.art_step.specs.WordPlaces.{free_words, pool_size};
 
 use art_cell::{Layout, Link, Node, Pool};
-use art_step::{Sizes, free_words};
+use art_machine::{Action, Answer, perform};
+use art_step::{EpochSteps, Number, Sizes, free_words};
 
 /// The word of free numbers of each pool at which a pass begins to search it: that of the number that it took or gave back last. So
 /// what comes back is taken again at once, and the words in use stay few.
@@ -16,6 +20,13 @@ pub struct Hints {
     n256: u32,
 }
 
+/// The number of a node in hand. Of two the one that was taken first has the smaller rank.
+#[derive(Clone, Copy)]
+pub struct RankedNode {
+    number: u32,
+    rank: u32,
+}
+
 /// The numbers that a pass has in hand: of a leaf, and of a node of each layout, one at most. They stay in hand where an attempt
 /// begins anew, and are used again.
 #[derive(Clone, Copy)]
@@ -23,15 +34,15 @@ pub struct Stock {
     leaf: Option<u32>,
     /// The leaf has its words.
     written: bool,
-    node4: Option<u32>,
-    node16: Option<u32>,
-    node48: Option<u32>,
-    node256: Option<u32>,
+    node4: Option<RankedNode>,
+    node16: Option<RankedNode>,
+    node48: Option<RankedNode>,
+    node256: Option<RankedNode>,
     hints: Hints,
 }
 
 impl Stock {
-    ghost use Rattle.art_epoch.specs.Stocks.{first_in, first_low, first_node, hint_in, hinted_at, node_in, node_link, without, without_leaf, without_node};
+    ghost use Rattle.art_epoch.specs.Stocks.{earlier, first_in, first_layout, first_node, has_node, hint_in, hinted_at, next_rank, node_in, node_link, ranked_node, set_node, without, without_leaf, without_node};
 
     /// Of the pass `own`, with nothing in hand: the first searches of the passes are spread over the words of a pool.
     pub fn new(own: u32, sizes: &Sizes) -> Stock
@@ -79,6 +90,13 @@ impl Stock {
     pub fn node(&self, layout: Layout) -> Option<u32>
         ensures { result ≡ node_in self.now layout }
     {
+        Some(self.ranked_node(layout)?.number)
+    }
+
+    /// The node of the layout, with its rank.
+    fn ranked_node(&self, layout: Layout) -> Option<RankedNode>
+        ensures { result ≡ ranked_node self.now layout }
+    {
         match layout {
             Layout::Node4 => self.node4,
             Layout::Node16 => self.node16,
@@ -103,16 +121,37 @@ impl Stock {
         self.written = true;
     }
 
-    /// A node comes in.
+    /// A node comes in, behind all that are in hand.
     pub fn add_node(&mut self, node: Node)
-        ensures { self.new ≡ with_node node self.old }
+        ensures node { self.new ≡ with_node node self.old }
+        ensures last { ComesLast self.old self.new node.layout }
     {
+        let ranked = RankedNode {
+            number: node.number,
+            rank: self.next_rank(),
+        };
         self.start_at(Link::Node(node));
-        match node.layout {
-            Layout::Node4 => self.node4 = Some(node.number),
-            Layout::Node16 => self.node16 = Some(node.number),
-            Layout::Node48 => self.node48 = Some(node.number),
-            Layout::Node256 => self.node256 = Some(node.number),
+        self.set_node(node.layout, Some(ranked));
+    }
+
+    /// The rank of a node that comes in.
+    fn next_rank(&self) -> u32
+        ensures { result ≡ next_rank self.now }
+    {
+        let small = rank_after(self.node4).max(rank_after(self.node16));
+        let large = rank_after(self.node48).max(rank_after(self.node256));
+        small.max(large)
+    }
+
+    /// The node of the layout is this one, or there is none.
+    fn set_node(&mut self, layout: Layout, node: Option<RankedNode>)
+        ensures { self.new ≡ set_node layout node self.old }
+    {
+        match layout {
+            Layout::Node4 => self.node4 = node,
+            Layout::Node16 => self.node16 = node,
+            Layout::Node48 => self.node48 = node,
+            Layout::Node256 => self.node256 = node,
         }
     }
 
@@ -146,41 +185,57 @@ impl Stock {
     pub fn spend_node(&mut self, layout: Layout)
         ensures { self.new ≡ without_node layout self.old }
     {
-        match layout {
-            Layout::Node4 => self.node4 = None,
-            Layout::Node16 => self.node16 = None,
-            Layout::Node48 => self.node48 = None,
-            Layout::Node256 => self.node256 = None,
-        }
+        self.set_node(layout, None);
     }
 
-    /// The first of them: the leaf, and then the nodes from the smallest layout on.
+    /// The first of them: the leaf, and then the nodes in the order in which they were taken.
     pub(crate) fn first(&self) -> Option<Link>
         ensures { result ≡ first_in self.now }
     {
-        match self.first_low() {
-            Some(link) => Some(link),
-            None => self.first_node(Layout::Node48, Layout::Node256),
-        }
-    }
-
-    /// The leaf, or else the first of the small nodes.
-    fn first_low(&self) -> Option<Link>
-        ensures { result ≡ first_low self.now }
-    {
         match self.leaf {
             Some(leaf) => Some(Link::Leaf(leaf)),
-            None => self.first_node(Layout::Node4, Layout::Node16),
+            None => self.first_node(),
         }
     }
 
-    /// The node of the one layout, or else of the other.
-    fn first_node(&self, one: Layout, other: Layout) -> Option<Link>
-        ensures { result ≡ first_node self.now one other }
+    /// The node that was taken first.
+    fn first_node(&self) -> Option<Link>
+        ensures { result ≡ first_node self.now }
     {
-        match self.link(one) {
-            Some(link) => Some(link),
-            None => self.link(other),
+        // A write mostly has none in hand by then.
+        if self.has_node() {
+            self.link(self.first_layout())
+        } else {
+            None
+        }
+    }
+
+    /// A node is in hand.
+    fn has_node(&self) -> bool
+        ensures { result ≡ has_node self.now }
+    {
+        self.node4.is_some()
+            || self.node16.is_some()
+            || self.node48.is_some()
+            || self.node256.is_some()
+    }
+
+    /// The layout whose node was taken first, if a node is in hand.
+    fn first_layout(&self) -> Layout
+        ensures { result ≡ first_layout self.now }
+    {
+        let large = self.earlier(Layout::Node48, Layout::Node256);
+        self.earlier(Layout::Node4, self.earlier(Layout::Node16, large))
+    }
+
+    /// Of two layouts that whose node was taken first, or that of which there is one.
+    fn earlier(&self, one: Layout, other: Layout) -> Layout
+        ensures { result ≡ earlier self.now one other }
+    {
+        if is_before(self.ranked_node(other), self.ranked_node(one)) {
+            other
+        } else {
+            one
         }
     }
 
@@ -200,6 +255,27 @@ impl Stock {
             Link::Leaf(_) => self.spend_leaf(),
             Link::Node(node) => self.spend_node(node.layout),
         }
+    }
+}
+
+/// The rank behind that of the node, as long as there is one.
+fn rank_after(node: Option<RankedNode>) -> u32
+    ensures { result ≡ rank_after node }
+{
+    match node {
+        Some(node) => node.rank.saturating_add(1),
+        None => 0,
+    }
+}
+
+/// The node is there, and was taken before the other, if that is there.
+fn is_before(node: Option<RankedNode>, other: Option<RankedNode>) -> bool
+    ensures { result ≡ is_before node other }
+{
+    match (node, other) {
+        (None, _) => false,
+        (Some(_), None) => true,
+        (Some(node), Some(other)) => node.rank < other.rank,
     }
 }
 
@@ -225,4 +301,178 @@ fn first_word(own: u32, passes: u32, words: u32) -> u32
         return 0;
     }
     (u64::from(own) * u64::from(words) / u64::from(passes)) as u32
+}
+
+/// How far a search for a number has come.
+#[derive(Clone, Copy)]
+pub enum Search {
+    /// So many words gave none.
+    Looking(u32),
+    /// The word after so many was found with this bit, its lowest.
+    Clearing { index: u32, bit: u32 },
+    /// The number with this bit of that word is in hand.
+    Took { index: u32, bit: u32 },
+}
+
+/// Takes a number of a pool: it looks at the words of free numbers in their order, from one on and all around, and of one with a
+/// bit it takes the lowest. A bit that another pass took in between sends it to the next word.
+#[derive(Clone, Copy)]
+pub struct Taking {
+    pool: Pool,
+    words: u32,
+    /// The index of the word that it looks at first.
+    first: u32,
+    search: Search,
+}
+
+impl Taking {
+    ghost use Rattle.std.specs.Prelude.{ℕ};
+    ghost use Rattle.art_step.specs.declared.views.Sizes.{Sizes};
+    ghost use Rattle.art_step.specs.declared.views.View.{View};
+    ghost use Rattle.art_machine.specs.declared.actions.Action.{Action as ActionOf};
+
+    /// A number of this pool, from its first word on.
+    pub fn new(pool: Pool, sizes: Sizes) -> Taking
+        ensures pool { result.pool ≡ pool }
+        ensures first { result.first ≡ 0 }
+        ensures fits { (v : View) → Fits sizes v result v }
+    {
+        Taking::from_word(pool, sizes, 0)
+    }
+
+    /// A number of this pool, from the word with an index on, and all around.
+    pub fn from_word(pool: Pool, sizes: Sizes, first: u32) -> Taking
+        ensures pool { result.pool ≡ pool }
+        ensures first { result.first ≡ first }
+        ensures fits { (v : View) → Fits sizes v result v }
+    {
+        Taking {
+            pool,
+            words: free_words(sizes.pool_size(pool)) as u32,
+            first,
+            search: Search::Looking(0),
+        }
+    }
+
+    /// The next step, or none where it has ended.
+    #[inline(always)]
+    pub fn next(&self) -> Option<Action>
+        ensures asks { result ≡ asks self.now }
+        ensures allowed { (z : Sizes) (v0 v : View) → Fits z v0 self.now v → IfSome result (IsAllowed z None v) }
+    {
+        match self.search {
+            Search::Looking(passed) if passed < self.words => Some(Action::ClearBit {
+                pool: self.pool,
+                index: around(self.words, self.first, passed),
+                bit: None,
+            }),
+            Search::Clearing { index: passed, bit } => Some(Action::ClearBit {
+                pool: self.pool,
+                index: around(self.words, self.first, passed),
+                bit: Some(bit),
+            }),
+            _ => None,
+        }
+    }
+
+    /// The step that it asked for was made, and answered so.
+    #[inline(always)]
+    pub fn told(&mut self, answer: Answer)
+        requires { (z : Sizes) × (v0 : View) × (v : View) × (w : View) × (action : ActionOf) × Fits z v0 self.old v ×
+            (asks self.old ≡ Some action) × Answers z None action answer v w }
+        ensures pool { self.new.pool ≡ self.old.pool }
+        ensures words { self.new.words ≡ self.old.words }
+        ensures first { self.new.first ≡ self.old.first }
+        ensures fits { (z : Sizes) (v0 v w : View) (action : ActionOf) → Fits z v0 self.old v → asks self.old ≡ Some action →
+            Answers z None action answer v w → Fits z v0 self.new w }
+    {
+        self.search = after(self.search, answer.word());
+    }
+
+    /// The number that it took, or none.
+    #[inline(always)]
+    pub fn number(&self) -> Option<Number>
+        requires { (z : Sizes) × (v0 : View) × (v : View) × Fits z v0 self.now v × (asks self.now ≡ None) }
+        ensures { (z : Sizes) (v0 v : View) → Fits z v0 self.now v → Takes z v0 v self.now.pool self.now.first result }
+    {
+        match self.search {
+            Search::Took { index: passed, bit } => {
+                let index = around(self.words, self.first, passed);
+                Some(Number::in_pool(self.pool, 64 * index + bit))
+            }
+            _ => None,
+        }
+    }
+}
+
+/// The index of the word that comes after so many others, where the words go round from the first one on.
+#[inline(always)]
+fn around(words: u32, first: u32, passed: u32) -> u32
+    ensures { result ≡ around words first passed }
+{
+    let ahead = words.saturating_sub(first);
+    if passed < ahead {
+        first + passed
+    } else {
+        passed - ahead
+    }
+}
+
+/// How far the search has come once this word was found.
+#[inline(always)]
+fn after(search: Search, word: u64) -> Search
+    requires { IsSearch search }
+    ensures { result ≡ search_after word search }
+{
+    match search {
+        Search::Looking(passed) => looked(passed, word),
+        Search::Clearing { index: passed, bit } => cleared(passed, bit, word),
+        Search::Took { index: passed, bit } => Search::Took { index: passed, bit },
+    }
+}
+
+/// The word after so many was looked at.
+#[inline(always)]
+fn looked(passed: u32, word: u64) -> Search
+    requires { passed + 1 < 2 ^ 32 }
+    ensures { result ≡ after_look passed word }
+{
+    if word == 0 {
+        return Search::Looking(passed + 1);
+    }
+    Search::Clearing {
+        index: passed,
+        bit: word.trailing_zeros(),
+    }
+}
+
+/// The word lost the bit, or did not have it.
+#[inline(always)]
+fn cleared(passed: u32, bit: u32, word: u64) -> Search
+    requires inside { passed + 1 < 2 ^ 32 }
+    requires low { bit < 64 }
+    ensures { result ≡ after_clear passed bit word }
+{
+    if (word >> bit) % 2 == 1 {
+        return Search::Took { index: passed, bit };
+    }
+    Search::Looking(passed + 1)
+}
+
+/// A number of the pool comes into the hand of the pass: the lowest of the first word of free numbers that is found with a bit
+/// which nobody takes in between. None where each word of the pool was found without a bit, or its lowest bit was lost.
+pub fn take<S: EpochSteps>(steps: &mut S, pool: Pool) -> Option<Number>
+    ensures only { S.only steps.old steps.new }
+    ensures same { OnlyTakes (S.view steps.old) (S.view steps.new) }
+    ensures steps { (S.view steps.new).steps ≤ (S.view steps.old).steps + 2 * free_words (pool_size (S.sizes steps.old) pool) }
+    ensures counted { MadeFew (S.view steps.old) (S.view steps.new) (free_words (pool_size (S.sizes steps.old) pool) + 1) }
+    ensures failed { (S.view steps.old).failures ≤ (S.view steps.new).failures }
+    ensures takes { Takes (S.sizes steps.old) (S.view steps.old) (S.view steps.new) pool 0 result }
+{
+    let mut taking = Taking::new(pool, steps.pool_sizes());
+    while let Some(action) = taking.next() {
+        let answer = perform(steps, action, None);
+        taking.told(answer);
+    }
+    taking.number()
 }

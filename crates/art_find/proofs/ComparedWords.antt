@@ -3,7 +3,7 @@ use Rattle.std.proofs.Common.{◌≡◌, ◌≢◌, ◌⊎◌, inl, inr, ℕ, �
 use Rattle.std.proofs.lemmas.Bool.{cases_lt}
 use Rattle.art_cell.specs.Words.{Words, packed, byte_of}
 use Rattle.art_find.specs.Compares.{ComparesWord, HasByte, IsWithin, TellsBeside, byte_after, byte_in}
-use Rattle.art_find.specs.declared.compares.Beside.{Beside}
+use Rattle.art_find.specs.declared.descents.Beside.{Beside}
 use Rattle.art_path.specs.Compared.{AreSame, IsCompared, behind}
 use Rattle.art_path.specs.declared.compared.Compared.{Compared}
 use Rattle.art_path.specs.declared.compared.Compared.TheVariants.{Same, Below, Above}

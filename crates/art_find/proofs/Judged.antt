@@ -8,7 +8,7 @@ use Rattle.art_cell.specs.Words.{packed}
 use Rattle.art_find.specs.Compares.{HasByte, IsWithin}
 use Rattle.art_find.specs.Verdicts.{Says}
 use Rattle.art_find.specs.Ways.{HasHeader, IsAtLeaf, IsPassed, count_in}
-use Rattle.art_find.specs.declared.verdicts.Verdict.TheVariants.{Found, Empty, LeafMismatch, PrefixMismatch, Overlaps}
+use Rattle.art_find.specs.declared.descents.Verdict.TheVariants.{Found, Empty, LeafMismatch, PrefixMismatch, Overlaps}
 use Rattle.art_find.proofs.ComparedWords.{above_other, below_other}
 use Rattle.art_find.proofs.LeafKeys.{leaf_ends, leaf_found, leaf_goes_on, leaf_parts}
 use Rattle.art_find.proofs.NodeWords.{ends_within}

@@ -7,7 +7,7 @@ use Rattle.art_find.proofs.Keeping.{Grows, cell_fits, kept_grows, known_both, pa
 use Rattle.art_find.specs.Kept.{IsKept, StaysRead, WasReadAt}
 use Rattle.art_find.specs.Rereadings.{AreKnown, RereadingFits}
 use Rattle.art_find.specs.Runs.{HasReadOn, HasReadOnly, WereRead}
-use Rattle.art_find.specs.declared.rereadings.Rereading.{Rereading}
+use Rattle.art_find.specs.declared.read_sets.Rereading.{Rereading}
 use Rattle.art_step.proofs.Shows.{read_rest}
 use Rattle.art_step.specs.Shows.{OnlyReads, Rest}
 use Rattle.art_step.specs.Steps.Read as read

@@ -14,7 +14,7 @@ use Rattle.art_machine.proofs.AnswerKinds.{finds_word, is_begin, is_check}
 use Rattle.art_find.specs.Asking.{WantsCheck, WantsVersion, WantsWord}
 use Rattle.art_machine.specs.Acting.{Answers, WasChecked, telling}
 use Rattle.art_find.specs.Compares.{ComparesWord, HasByte, IsBeside, IsWithin, TellsBeside, at_first}
-use Rattle.art_find.specs.declared.compares.Beside.{Beside}
+use Rattle.art_find.specs.declared.descents.Beside.{Beside}
 use Rattle.art_find.specs.Descents.{IsAbove, IsChild, IsOn, IsReading, StageFits, WasNamed, WasNoted, answer_at, asks, ended_at, stage_below, staged}
 use Rattle.art_step.specs.Events.{MakesEvent}
 use Rattle.art_find.specs.Verdicts.{Says, value_of}
@@ -22,13 +22,12 @@ use Rattle.art_find.specs.Ways.{HasHeader, IsAtLeaf, IsAtSlot, IsInKey, IsInPref
 use Rattle.art_machine.specs.declared.actions.Answer.{Answer}
 use Rattle.art_machine.specs.declared.actions.Answer.TheVariants.{Begun, Word as word_told, Checked}
 use Rattle.art_machine.specs.declared.actions.Action.{Action}
-use Rattle.art_machine.specs.declared.actions.Action.TheVariants.{Begin, Read, ReadLeaf, Check, Settle}
 use Rattle.art_find.specs.declared.descents.LeafSeen.{LeafSeen}
 use Rattle.art_find.specs.declared.descents.NodeSeen.{NodeSeen}
 use Rattle.art_find.specs.declared.descents.Stage.{Stage}
 use Rattle.art_find.specs.declared.descents.Stage.TheVariants.{Start, Anchor, Child, Below, Both, Header, Prefix, Keys, Slot, Value, Length, Bytes, Decided, Ended}
-use Rattle.art_find.specs.declared.verdicts.Verdict.{Verdict}
-use Rattle.art_find.specs.declared.verdicts.Verdict.TheVariants as verdict
+use Rattle.art_find.specs.declared.descents.Verdict.{Verdict}
+use Rattle.art_find.specs.declared.descents.Verdict.TheVariants as verdict
 use Rattle.art_find.proofs.Keeping.{anchor_path, path_grows, path_passed, read_grows}
 use Rattle.art_find.proofs.Judged.{KeyRead, PrefixRead, judged_above, judged_begins, judged_below, judged_empty, judged_ended, judged_found, judged_leaf_above, judged_leaf_below, judged_leaf_ended}
 use Rattle.art_find.proofs.LeafKeys.{leaf_not_torn}

@@ -3,8 +3,8 @@ use Rattle.std.proofs.Common.{◌≡◌, ◌≢◌, ℕ, suc, ◌<◌, List, [],
 use Rattle.std.proofs.Math.Seq.{take-suc}
 use Rattle.art_cell.specs.declared.cells.Cell.{Cell}
 use Rattle.art_find.specs.Verdicts.{HasOverlap, IsFound, IsLeafMismatch, PartsAt, Says, value_of}
-use Rattle.art_find.specs.declared.verdicts.Verdict.{Verdict}
-use Rattle.art_find.specs.declared.verdicts.Verdict.TheVariants.{Found, Empty, LeafMismatch, PrefixMismatch, NoChild, Overlaps, Torn, Absent}
+use Rattle.art_find.specs.declared.descents.Verdict.{Verdict}
+use Rattle.art_find.specs.declared.descents.Verdict.TheVariants.{Found, Empty, LeafMismatch, PrefixMismatch, NoChild, Overlaps, Torn, Absent}
 use Rattle.art_find.proofs.NodeWords.{begins_take, differs, free_byte}
 use Rattle.art_step.specs.Knowledge.{IsShape}
 use Rattle.art_step.specs.Shows.{HasValue, Shows}

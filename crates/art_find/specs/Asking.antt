@@ -1,5 +1,5 @@
 -- What a look at a cell needs of the pass's view.
-use Rattle.std.specs.Prelude.{◌<◌, ℕ, Option, None, Some}
+use Rattle.std.specs.Prelude.{◌<◌, Option, None, Some}
 use Rattle.art_machine.specs.Acting.{FindsWord, HasPath, IsBegin, IsCheck, WasChecked}
 use Rattle.art_machine.specs.declared.actions.Action.{Action}
 use Rattle.art_machine.specs.declared.actions.Action.TheVariants.{Begin, Read, ReadLeaf, Check, Settle}

@@ -1,7 +1,7 @@
 -- How the bytes that are packed in the words of a cell stand to those of a key, one word after another.
 use Rattle.std.specs.Prelude.{◌≡◌, ℕ, ◌+◌, ◌*◌, ◌%◌, ◌<◌, ◌≤◌, min, List, length, ⊤}
 use Rattle.art_cell.specs.Words.{Words, byte_of, packed}
-use Rattle.art_find.specs.declared.compares.Beside.{Beside}
+use Rattle.art_find.specs.declared.descents.Beside.{Beside}
 use Rattle.art_path.specs.declared.compared.Compared.{Compared}
 use Rattle.art_path.specs.declared.compared.Compared.TheVariants.{Same, Below, Above}
 use Rattle.art_path.specs.Compared.{IsCompared}

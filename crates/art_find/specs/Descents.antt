@@ -10,7 +10,7 @@ use Rattle.art_find.specs.Verdicts.{Says, value_of}
 use Rattle.art_find.specs.Ways.{IsAtKeys, IsAtLeaf, IsAtSlot, IsInKey, IsInPrefix, IsOnNode, count_in}
 use Rattle.art_machine.specs.Acting.{HasPath, WasChecked}
 use Rattle.art_machine.specs.declared.actions.Answer.{Answer}
-use Rattle.art_find.specs.declared.compares.Beside.{Beside}
+use Rattle.art_find.specs.declared.descents.Beside.{Beside}
 use Rattle.art_machine.specs.declared.actions.Answer.TheVariants.{Begun, Checked}
 use Rattle.art_machine.specs.declared.actions.Answer.TheVariants as told
 use Rattle.art_machine.specs.declared.actions.Action.{Action}
@@ -20,8 +20,8 @@ use Rattle.art_find.specs.declared.descents.LeafSeen.{LeafSeen}
 use Rattle.art_find.specs.declared.descents.NodeSeen.{NodeSeen}
 use Rattle.art_find.specs.declared.descents.Stage.{Stage}
 use Rattle.art_find.specs.declared.descents.Stage.TheVariants.{Start, Anchor, Child, Below, Both, Header, Prefix, Keys, Slot, Value, Length, Bytes, Decided, Ended}
-use Rattle.art_find.specs.declared.verdicts.Verdict.{Verdict}
-use Rattle.art_find.specs.declared.verdicts.Verdict.TheVariants as verdict
+use Rattle.art_find.specs.declared.descents.Verdict.{Verdict}
+use Rattle.art_find.specs.declared.descents.Verdict.TheVariants as verdict
 use Rattle.art_node.specs.declared.searches.Sought.{Sought}
 use Rattle.art_node.specs.declared.searches.Sought.TheVariants as sought
 use Rattle.art_path.specs.declared.compared.Compared.{Compared}

@@ -13,7 +13,7 @@ use Rattle.art_machine.specs.declared.actions.Answer.TheVariants.{Begun, Checked
 use Rattle.art_machine.specs.declared.actions.Answer.TheVariants as told
 use Rattle.art_machine.specs.declared.actions.Action.{Action}
 use Rattle.art_machine.specs.declared.actions.Action.TheVariants.{Read, ReadLeaf, Check, Settle}
-use Rattle.art_find.specs.declared.verdicts.Verdict.{Verdict}
+use Rattle.art_find.specs.declared.descents.Verdict.{Verdict}
 use Rattle.art_find.specs.ReadSets.{above_of, node_of}
 use Rattle.art_find.specs.Kept.{IsKept}
 use Rattle.art_find.specs.declared.read_sets.ReadSet.{ReadSet}

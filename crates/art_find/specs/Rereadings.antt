@@ -5,7 +5,7 @@ use Rattle.art_machine.specs.Acting.{HasPath}
 use Rattle.art_machine.specs.declared.actions.Action.{Action}
 use Rattle.art_machine.specs.declared.actions.Action.TheVariants.{Read}
 use Rattle.art_find.specs.Kept.{IsKept}
-use Rattle.art_find.specs.declared.rereadings.Rereading.{Rereading}
+use Rattle.art_find.specs.declared.read_sets.Rereading.{Rereading}
 use Rattle.art_step.specs.Shows.{HasStamp}
 use Rattle.art_step.specs.Views.{IsNotHeld, size_of}
 use Rattle.art_step.specs.declared.views.Sizes.{Sizes}

@@ -2,7 +2,7 @@
 use Rattle.std.specs.Prelude.{◌≡◌, ◌+◌, ◌<◌, ◌≤◌, ℕ, List, Option, get_or, length}
 use Rattle.art_find.specs.Kept.{Grows, StaysRead, WasReadAt}
 use Rattle.art_find.specs.Rereadings.{AreKnown, RereadingFits}
-use Rattle.art_find.specs.declared.rereadings.Rereading.{Rereading}
+use Rattle.art_find.specs.declared.read_sets.Rereading.{Rereading}
 use Rattle.art_machine.specs.Acting.{HasPath}
 use Rattle.art_step.specs.Shows.{HasStamp, OnlyReads}
 use Rattle.art_step.specs.Views.{IsNotHeld, size_of}

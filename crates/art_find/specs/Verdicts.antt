@@ -6,8 +6,8 @@ use Rattle.art_cell.specs.declared.cells.Link.TheVariants.{Leaf as leaf}
 use Rattle.art_cell.specs.declared.cells.Node.{Node}
 use Rattle.art_cell.specs.Words.{packed}
 use Rattle.art_find.specs.Ways.{HasHeader, IsPastPrefix, count_in}
-use Rattle.art_find.specs.declared.verdicts.Verdict.{Verdict}
-use Rattle.art_find.specs.declared.verdicts.Verdict.TheVariants.{Found, Empty, LeafMismatch, PrefixMismatch, NoChild, Overlaps, Torn, Absent}
+use Rattle.art_find.specs.declared.descents.Verdict.{Verdict}
+use Rattle.art_find.specs.declared.descents.Verdict.TheVariants.{Found, Empty, LeafMismatch, PrefixMismatch, NoChild, Overlaps, Torn, Absent}
 use Rattle.art_path.specs.Compared.{AreSame}
 use Rattle.art_step.specs.Shows.{HasChild, HasValue, Shows}
 use Rattle.art_step.specs.declared.views.Sizes.{Sizes}

@@ -6,7 +6,7 @@ use Rattle.art_cell.specs.declared.cells.Link.TheVariants.{Leaf as leaf, Node as
 use Rattle.art_cell.specs.declared.cells.Node.{Node}
 use Rattle.art_cell.specs.Words.{child_of, nonzero, packed}
 use Rattle.art_find.specs.Compares.{IsBeside}
-use Rattle.art_find.specs.declared.compares.Beside.{Beside}
+use Rattle.art_find.specs.declared.descents.Beside.{Beside}
 use Rattle.art_find.specs.declared.descents.LeafSeen.{LeafSeen}
 use Rattle.art_node.specs.Searches.{KeysKnown}
 use Rattle.art_path.specs.declared.compared.Compared.{Compared}

@@ -1,13 +1,12 @@
-//! A descent by a key.
-ghost use Rattle.std.specs.Prelude.{◌≡◌, ℕ, List, Option, length, ◌≤◌, ◌<◌, ◌+◌, ◌*◌, None, Ok, take};
+//! A descent by a key, how the bytes of a cell stand to the key, and what a descent shows.
+ghost use Rattle.std.specs.Prelude.{◌≡◌, ℕ, List, Option, length, ◌≤◌, ◌<◌, ◌+◌, ◌*◌, None, Ok, take, ◌≢◌};
 ghost use Rattle.art_find.specs.Descents.{stage_below};
+ghost use Rattle.art_find.specs.Compares.{ComparesWord, IsWithin, TellsBeside, byte_after, byte_in};
 
-use crate::Verdict;
-use crate::compares::{Beside, compare_word};
 use art_cell::{Cell, Link, Node};
 use art_machine::{Action, Answer};
 use art_node::{Sought, first_word, next_word, read_header};
-use art_path::Compared;
+use art_path::{Compared, compare_prefix};
 use art_step::Stamp;
 
 /// A node that is stamped, and its header.
@@ -354,5 +353,122 @@ pub(crate) fn below(stamp: Stamp, link: Link) -> Stage
     match link {
         Link::Leaf(leaf) => Stage::Value { stamp, leaf },
         Link::Node(node) => Stage::Below { above: stamp, node },
+    }
+}
+
+/// Where a key stands, or would stand.
+#[derive(Clone, Copy)]
+pub enum Verdict {
+    /// The leaf with this number has the key, and this is its value.
+    Found { leaf: u32, value: u64 },
+    /// The anchor names nothing.
+    Empty,
+    /// The leaf with this number stands on the key's way, and has another key: of the key's bytes the one with this index is the
+    /// first that the other key does not have there; it has this byte.
+    LeafMismatch { leaf: u32, at: usize, byte: u8 },
+    /// The node stands on the key's way and has this header; the byte of its prefix with this index is the first that is not the
+    /// key's.
+    PrefixMismatch { node: Node, header: u64, at: usize },
+    /// The node stands on the key's way and has this header; it has no child at the key's next byte.
+    NoChild { node: Node, header: u64 },
+    /// The key ends where another goes on, or goes on where another ends: one begins the other.
+    Overlaps,
+    /// No tree has such words: the check will fail.
+    Torn,
+    /// The key has no value. Where it would stand is not said: so ends the straight way of a get, and no step of a descent.
+    Absent,
+}
+
+impl Verdict {
+    ghost use Rattle.art_find.specs.Verdicts.{value_of};
+    ghost use Rattle.art_find.specs.declared.descents.Verdict.TheVariants as verdicts;
+
+    /// The key's value, or that it has none.
+    #[inline(always)]
+    pub fn value(self) -> Option<u64>
+        ensures { result ≡ value_of self }
+    {
+        match self {
+            Verdict::Found { value, .. } => Some(value),
+            _ => None,
+        }
+    }
+
+    /// The same where the key has a byte with this index; else the key ends where another goes on.
+    #[inline(always)]
+    pub(crate) fn within(self, key: &[u8], index: usize) -> Verdict
+        ensures has { index < length key.now → result ≡ self }
+        ensures ends { length key.now ≤ index → result ≡ verdicts.Overlaps }
+        ensures exact { self ≢ verdicts.Absent → result ≢ verdicts.Absent }
+    {
+        if index < key.len() {
+            self
+        } else {
+            Verdict::Overlaps
+        }
+    }
+}
+
+/// How the bytes of a leaf's key stand to those of a key, as far as they were read; and, once they part, the leaf's byte there.
+#[derive(Clone, Copy)]
+pub struct Beside {
+    pub compared: Compared,
+    pub byte: u8,
+}
+
+/// How so many packed bytes stand to those of the key from a place on, as far as the word with a number, by that word and by what
+/// was known of the bytes before it.
+pub(crate) fn compare_word(
+    key: &[u8],
+    from: usize,
+    count: usize,
+    number: u8,
+    word: u64,
+    before: Compared,
+) -> Compared
+    requires more { 8 * number < count }
+    requires few { count ≤ 64 }
+    requires within { IsWithin key.now from (8 * number) before }
+    ensures { ComparesWord key.now from count number word before result }
+{
+    let done = 8 * usize::from(number);
+    match before {
+        Compared::Same => compare_prefix(word, (count - done).min(8), key, from + done).behind(
+            done,
+        ),
+        parted => parted,
+    }
+}
+
+/// How a leaf's key of so many bytes stands to the key, as far as the word with a number, by that word and by what was known of
+/// the bytes before it.
+pub(crate) fn beside_word(key: &[u8], count: usize, number: u8, word: u64, before: Beside) -> Beside
+    requires more { 8 * number < count }
+    requires few { count ≤ 64 }
+    requires within { IsWithin key.now 0 (8 * number) before.compared }
+    ensures { TellsBeside key.now count number word before result }
+{
+    let compared = compare_word(key, 0, count, number, word, before.compared);
+    let byte = byte_after(before, compared, word);
+    Beside { compared, byte }
+}
+
+/// The byte where they part, if they do, once the word was compared too.
+fn byte_after(before: Beside, compared: Compared, word: u64) -> u8
+    ensures { result ≡ byte_after before.compared before.byte compared word }
+{
+    match before.compared {
+        Compared::Same => byte_in(compared, word),
+        _ => before.byte,
+    }
+}
+
+/// The byte of the word at which the bytes part, if they do.
+fn byte_in(compared: Compared, word: u64) -> u8
+    ensures { result ≡ byte_in compared word }
+{
+    match compared {
+        Compared::Same => 0,
+        Compared::Below(at) | Compared::Above(at) => word.to_be_bytes()[at % 8],
     }
 }

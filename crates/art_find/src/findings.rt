@@ -47,6 +47,7 @@
 ghost use Rattle.std.specs.Prelude.{◌≡◌, ◌+◌, ◌≤◌, ◌<◌, ◌⊎◌, ℕ, List, Option, length, None};
 ghost use Rattle.art_find.specs.Findings.{AsksPlace, IsHeard};
 
+use crate::driver::{read_leaf_word, read_word};
 use crate::{Descent, ReadSet, Stage, Verdict};
 use art_cell::Cell;
 use art_machine::{Action, Answer};
@@ -262,11 +263,11 @@ impl Finding {
     {
         match *self.descent.stage() {
             Stage::Anchor(stamp) => {
-                let word = steps.read(stamp, 1);
+                let word = read_word(steps, stamp, 1);
                 self.hear_word(read_set, key, Stage::Anchor(stamp), stamp, 1, word);
             }
             Stage::Header { stamp, node } => {
-                let word = steps.read(stamp, 1);
+                let word = read_word(steps, stamp, 1);
                 self.hear_word(read_set, key, Stage::Header { stamp, node }, stamp, 1, word);
             }
             Stage::Prefix {
@@ -275,7 +276,7 @@ impl Finding {
                 before,
             } => {
                 let place = 2 + usize::from(number);
-                let word = steps.read(seen.stamp, place);
+                let word = read_word(steps, seen.stamp, place);
                 let stage = Stage::Prefix {
                     seen,
                     number,
@@ -285,7 +286,7 @@ impl Finding {
             }
             Stage::Keys { seen, number } => {
                 let place = 10 + usize::from(number);
-                let word = steps.read(seen.stamp, place);
+                let word = read_word(steps, seen.stamp, place);
                 self.hear_word(
                     read_set,
                     key,
@@ -296,7 +297,7 @@ impl Finding {
                 );
             }
             Stage::Slot { seen, place } => {
-                let word = steps.read(seen.stamp, place);
+                let word = read_word(steps, seen.stamp, place);
                 self.hear_word(
                     read_set,
                     key,
@@ -323,12 +324,12 @@ impl Finding {
     {
         match *self.descent.stage() {
             Stage::Value { stamp, leaf } => {
-                let word = steps.read_leaf(stamp, leaf, 0);
+                let word = read_leaf_word(steps, stamp, leaf, 0);
                 self.descent
                     .read_at(Stage::Value { stamp, leaf }, key, word);
             }
             Stage::Length { stamp, leaf, value } => {
-                let word = steps.read_leaf(stamp, leaf, 1);
+                let word = read_leaf_word(steps, stamp, leaf, 1);
                 self.descent
                     .read_at(Stage::Length { stamp, leaf, value }, key, word);
             }
@@ -337,7 +338,7 @@ impl Finding {
                 number,
                 before,
             } => {
-                let word = steps.read_leaf(seen.stamp, seen.leaf, 2 + usize::from(number));
+                let word = read_leaf_word(steps, seen.stamp, seen.leaf, 2 + usize::from(number));
                 self.descent.read_at(
                     Stage::Bytes {
                         seen,

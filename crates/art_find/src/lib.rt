@@ -61,7 +61,8 @@
 //! more instructions on stages than on words. A get goes straight down instead (`go_down`), as long as nothing stops it: the same
 //! steps in the same order, each a call of its own that hands the next one what it needs. Its contracts say at which stage the
 //! descent would stand (`GetGoes`), so that where something does stop it (a version word that is locked or changed, few turns)
-//! the machine goes on from there.
+//! the machine goes on from there. A word is read by `read_word` or `read_leaf_word`, which ask for what a machine's reads ask
+//! for (`IsAllowed`): a path to the cell was noted, or the cell that names the leaf was checked.
 //!
 //! # For a change
 //!
@@ -75,21 +76,15 @@
 //! costs at most 18. A failure begins the count anew. So a get that used all its turns met many failures, or had few turns.
 #![tactic(auto)]
 
-mod compares;
 mod descents;
 mod driver;
 mod findings;
 mod read_sets;
 mod reads;
-mod rereadings;
 mod straight;
-mod verdicts;
 
-pub use compares::Beside;
-pub use descents::{Descent, LeafSeen, NodeSeen, Stage};
-pub use driver::look;
+pub use descents::{Beside, Descent, LeafSeen, NodeSeen, Stage, Verdict};
+pub use driver::{look, read_leaf_word, read_word};
 pub use findings::{Above, Finding, Position};
-pub use read_sets::ReadSet;
-pub use rereadings::Rereading;
+pub use read_sets::{ReadSet, Rereading};
 pub use straight::{Tally, go_down};
-pub use verdicts::Verdict;

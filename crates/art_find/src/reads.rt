@@ -2,7 +2,7 @@
 ghost use Rattle.std.specs.Prelude.{◌≡◌, ℕ, List, Option, length, ◌≤◌, ◌<◌, ◌+◌, ◌*◌, None, take};
 ghost use Rattle.art_find.specs.Descents.{staged};
 
-use crate::compares::{Beside, beside_word, compare_word};
+use crate::descents::{Beside, beside_word, compare_word};
 use crate::{Descent, LeafSeen, NodeSeen, Stage, Verdict};
 use art_cell::Link;
 use art_node::{Sought, first_word, next_word, read_header};

@@ -11,8 +11,8 @@ ghost use Rattle.art_find.specs.Compares.{at_first};
 ghost use Rattle.art_find.specs.Straight.{GoesOn, IsGoing, at_below, at_child, at_node, at_search, at_stage, come_to};
 ghost use Rattle.art_find.specs.declared.descents.Stage.TheVariants as stages;
 
-use crate::compares::{Beside, beside_word};
-use crate::descents::below as below_stage;
+use crate::descents::{Beside, below as below_stage, beside_word};
+use crate::driver::{read_leaf_word, read_word};
 use crate::{Descent, LeafSeen, NodeSeen, Stage, Verdict};
 use art_cell::{Cell, Link, Node};
 use art_node::{Sought, first_word, next_word, read_header};
@@ -205,7 +205,7 @@ fn root_child<S: Steps>(
         (S.sizes steps.new) (S.view steps.new) (come_to at_child result descent.new) tally.new }
 {
     tally.left -= 1;
-    let Some(link) = Link::named_by(steps.read(stamp, 1)) else {
+    let Some(link) = Link::named_by(read_word(steps, stamp, 1)) else {
         *descent = Descent {
             depth: 0,
             stage: Stage::Decided {
@@ -323,7 +323,7 @@ fn search<S: Steps>(
         (S.sizes steps.new) (S.view steps.new) (come_to at_search result descent.new) tally.new }
 {
     tally.left -= 1;
-    let header = steps.read(stamp, 1);
+    let header = read_word(steps, stamp, 1);
     if read_header(header).prefix_length > 0 || depth >= key.len() {
         *descent = Descent {
             depth,
@@ -368,7 +368,7 @@ fn pass_prefix<S: Steps>(
             return None;
         }
         tally.left -= 1;
-        let word = steps.read(seen.stamp, 2 + usize::from(number));
+        let word = read_word(steps, seen.stamp, 2 + usize::from(number));
         descent.read(key, word);
     }
 }
@@ -440,7 +440,7 @@ fn search_on<S: Steps>(
             return None;
         }
         tally.left -= 1;
-        let word = steps.read(seen.stamp, 10 + usize::from(number));
+        let word = read_word(steps, seen.stamp, 10 + usize::from(number));
         sought = next_word(seen.node.layout, key[depth], seen.header, number, word);
     }
 }
@@ -467,7 +467,7 @@ fn child_at<S: Steps>(
 {
     let _ = key;
     tally.left -= 1;
-    let Some(link) = Link::named_by(steps.read(seen.stamp, place)) else {
+    let Some(link) = Link::named_by(read_word(steps, seen.stamp, place)) else {
         *descent = Descent {
             depth,
             stage: Stage::Decided {
@@ -522,7 +522,7 @@ fn leaf_value<S: Steps>(steps: &mut S, tally: &mut Tally, below: Below, leaf: u3
         (S.sizes steps.new) (S.view steps.new) (at_stage below.depth (stages.Length below.above leaf result)) tally.new }
 {
     tally.left -= 1;
-    steps.read_leaf(below.above, leaf, 0)
+    read_leaf_word(steps, below.above, leaf, 0)
 }
 
 /// Reads how many bytes its key has.
@@ -547,7 +547,7 @@ fn leaf_count<S: Steps>(
         (come_to (λ x. at_stage below.depth (stages.Bytes x 0 at_first)) result descent.new) tally.new }
 {
     tally.left -= 1;
-    let bytes = steps.read_leaf(below.above, leaf, 1);
+    let bytes = read_leaf_word(steps, below.above, leaf, 1);
     if bytes == 0 || bytes > 64 {
         *descent = Descent {
             depth: below.depth,
@@ -594,12 +594,12 @@ fn compare_key<S: Steps>(
     };
     while tally.left > 2 && 8 * usize::from(number) + 8 < seen.count {
         tally.left -= 1;
-        let word = steps.read_leaf(seen.stamp, seen.leaf, 2 + usize::from(number));
+        let word = read_leaf_word(steps, seen.stamp, seen.leaf, 2 + usize::from(number));
         beside = beside_word(key, seen.count, number, word, beside);
         number += 1;
     }
     tally.left -= 1;
-    let word = steps.read_leaf(seen.stamp, seen.leaf, 2 + usize::from(number));
+    let word = read_leaf_word(steps, seen.stamp, seen.leaf, 2 + usize::from(number));
     // after the read: what was put in memory before one is read anew behind it
     *descent = Descent {
         depth,

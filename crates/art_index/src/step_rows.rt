@@ -8,11 +8,11 @@ use std::sync::Wait;
 use std::test::Fail;
 use std::thread::Threads;
 
-/// A schedule under the schema prints this, says this of faults, and ends with this status.
-fn check_end<H>(
+/// A schedule of these words prints this, says this of faults, and ends with this status.
+fn check_end<'a, H>(
     rt: &H,
     alloc: Global,
-    schema: &str,
+    words: &'a [&'a str],
     input: &[u8],
     expected: &[u8],
     told: &[u8],
@@ -21,11 +21,10 @@ fn check_end<H>(
 where
     H: Abort + Threads + Wait + Sync + Net<Listener = TcpListener, Stream = TcpStream>,
 {
-    let words = ["art_index", "step", "--schema", schema];
     let mut output = Vec::new(alloc);
     let mut faults = Vec::new(alloc);
     let mut reader = Counted::new(input);
-    let ended = execute(rt, alloc, &words, &mut reader, &mut output, &mut faults);
+    let ended = execute(rt, alloc, words, &mut reader, &mut output, &mut faults);
     assert_eq!(rt; output.as_slice(), expected);
     assert_eq!(rt; faults.as_slice(), told);
     assert_eq!(rt; ended, status);
@@ -36,7 +35,8 @@ fn check_steps<H>(rt: &H, alloc: Global, schema: &str, input: &[u8], expected: &
 where
     H: Abort + Threads + Wait + Sync + Net<Listener = TcpListener, Stream = TcpStream>,
 {
-    check_end(rt, alloc, schema, input, expected, b"".as_slice(), 0);
+    let words = ["art_index", "step", "--schema", schema];
+    check_end(rt, alloc, &words, input, expected, b"".as_slice(), 0);
 }
 
 /// Two rows share their first byte, so one node stands over both with it as its prefix. A get stands at that node when the prefix is split
@@ -103,6 +103,27 @@ fn restarts_of_a_scan_are_those_of_all_its_looks(rt: HostRuntime) {
     check_steps(&rt, rt.alloc(), "u8", input, expected);
 }
 
+/// The first attempt of A takes a leaf and the only Node16, the second a Node4, and the third finds the row. So all three go back, in that
+/// order: once two of them have, C grows a Node4 into the Node16.
+#[test]
+fn numbers_in_hand_go_back_as_they_were_taken(rt: HostRuntime) {
+    let words = ["art_index", "step", "--schema", "u8", "--n16", "1"];
+    let input = b"B start 1000 [\"insert\",[1],1]\nB end\nB start 1000 [\"insert\",[2],2]\nB end\n\
+        B start 1000 [\"insert\",[3],3]\nB end\nB start 1000 [\"insert\",[4],4]\nB end\n\
+        A start 1000 [\"insert\",[5],5]\nA until take 4\n\
+        B start 1000 [\"remove\",[4]]\nB end\nB start 1000 [\"remove\",[3]]\nB end\n\
+        B start 1000 [\"remove\",[2]]\nB end\nA until take 2\n\
+        B start 1000 [\"insert\",[5],9]\nB end\nA until give 2\n\
+        C start 1000 [\"insert\",[2],2]\nC end\nC start 1000 [\"insert\",[3],3]\nC end\n\
+        C start 1000 [\"insert\",[4],4]\nC end\nA end\n";
+    let expected = b"B [\"inserted\"] restarts 0\nB [\"inserted\"] restarts 0\n\
+        B [\"inserted\"] restarts 0\nB [\"inserted\"] restarts 0\nA at take\n\
+        B [\"removed\",4] restarts 0\nB [\"removed\",3] restarts 0\nB [\"removed\",2] restarts 0\n\
+        A at take\nB [\"inserted\"] restarts 0\nA at give\nC [\"inserted\"] restarts 0\n\
+        C [\"inserted\"] restarts 0\nC [\"inserted\"] restarts 0\nA [\"present\",9] restarts 2\n";
+    check_end(&rt, rt.alloc(), &words, input, expected, b"".as_slice(), 0);
+}
+
 #[test]
 fn small_schedules(rt: HostRuntime) {
     for (input, expected) in [
@@ -151,7 +172,8 @@ fn a_bad_line_ends_with_six(rt: HostRuntime) {
             b"art_index: schedule line 2\n",
         ),
     ] {
-        check_end(&rt, rt.alloc(), "u8", input, expected, told, 6);
+        let words = ["art_index", "step", "--schema", "u8"];
+        check_end(&rt, rt.alloc(), &words, input, expected, told, 6);
     }
 }
 

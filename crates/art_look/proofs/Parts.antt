@@ -1,18 +1,18 @@
 -- Which part of a seek asked, and which kind of step that was.
-use Rattle.std.proofs.Common.{◌≡◌, ℕ, Bool, true, false, Option, Some, None, inr, refl, sym, subst}
+use Rattle.std.proofs.Common.{◌≡◌, ℕ, Bool, true, false, Some, refl, subst}
 use Rattle.std.proofs.lemmas.Option.{same_Some}
-use Rattle.std.specs.Prelude.{IfSome, Ok, Err}
+use Rattle.std.specs.Prelude.{Ok, Err}
 use Rattle.art_epoch.specs.Pins as pins
-use Rattle.art_epoch.specs.declared.pins.Pinning.{Pinning}
-use Rattle.art_epoch.specs.declared.pins.Pinning.TheVariants.{Noting, Storing, Ended}
+use Rattle.art_epoch.specs.declared.enter.Pinning.{Pinning}
+use Rattle.art_epoch.specs.declared.enter.Pinning.TheVariants.{Noting, Storing, Ended}
 use Rattle.art_find.proofs.Counting.{asks_look as descent_looks}
 use Rattle.art_look.proofs.Going.{asks_look as look_looks}
-use Rattle.art_machine.specs.Acting.{IsAllowed, IsLook, IsPlain, goes_on, is_look}
+use Rattle.art_machine.specs.Acting.{IsLook, IsPlain, goes_on, is_look}
 use Rattle.art_machine.specs.declared.actions.Action.{Action}
 use Rattle.art_machine.specs.declared.actions.Action.TheVariants.{Begin, Read, ReadLeaf, Check, Settle, ReadEpoch, StorePin}
 use Rattle.art_machine.specs.declared.actions.Answer.{Answer}
 use Rattle.art_machine.specs.declared.actions.Answer.TheVariants.{Begun, Word, Checked, Upgraded, Done}
-use Rattle.art_look.specs.Asking.{MaySeek, is_counted, stepped_by, walked}
+use Rattle.art_look.specs.Asking.{is_counted, stepped_by, walked}
 use Rattle.art_look.specs.Seeks.{asks_at, is_walking}
 use Rattle.art_look.specs.Walks.{asks}
 use Rattle.art_look.specs.declared.seeks.Seek.{Seek}
@@ -20,9 +20,6 @@ use Rattle.art_look.specs.declared.seeks.SeekStage.{SeekStage}
 use Rattle.art_look.specs.declared.seeks.SeekStage.TheVariants as stage
 use Rattle.art_look.specs.declared.walks.Walk.{Walk}
 use Rattle.art_look.specs.declared.walks.Walk.TheVariants.{Key, Range}
-use Rattle.art_step.specs.declared.views.Sizes.{Sizes}
-use Rattle.art_step.specs.declared.views.View.{View}
-use Rattle.art_tree.specs.Heaps.{Cells}
 
 -- a walk asks for looks alone
 pub walk_looks : (w : Walk) (a : Action) → asks w ≡ Some a → IsLook a
@@ -45,11 +42,6 @@ pub pin_step : (p : Pinning) (a : Action) → pins.asks p ≡ Some a → IsPinSt
 pin_step Noting a is = subst IsPinStep (same_Some ReadEpoch a is) reads_epoch
 pin_step (Storing x) a is = subst IsPinStep (same_Some (StorePin x) a is) (stores_pin x)
 pin_step Ended a is = absurd (cc)
-
--- which a seek may make
-pub pin_seeks : (z : Sizes) (so : Cells → Type 0) (v : View) (p : Pinning) (o : Option Action) → o ≡ pins.asks p → IfSome o (IsAllowed z None v) → IfSome o (MaySeek z so v)
-pin_seeks z so v p None is may = tt
-pin_seeks z so v p (Some a) is may = inr ((pin_step p a (sym is)).no_look, may)
 
 -- ---- it is counted where it is one of the walk
 

@@ -3,8 +3,8 @@ use Rattle.std.proofs.Common.{◌≡◌, ℕ, ◌+◌, Some, refl, ap, inl, inr,
 use Rattle.std.proofs.lemmas.Option.{same_Some}
 use Rattle.std.specs.Prelude.{None, Ok, Err}
 use Rattle.art_epoch.specs.Pins as pins
-use Rattle.art_epoch.specs.declared.pins.Pinning.{Pinning}
-use Rattle.art_epoch.specs.declared.pins.Pinning.TheVariants.{Noting, Storing, Ended}
+use Rattle.art_epoch.specs.declared.enter.Pinning.{Pinning}
+use Rattle.art_epoch.specs.declared.enter.Pinning.TheVariants.{Noting, Storing, Ended}
 use Rattle.art_machine.proofs.Counting.{look_counts, steps_made}
 use Rattle.art_machine.proofs.Silence.{plain_silent}
 use Rattle.art_machine.specs.Acting.{Answers, IsLook, goes_on, steps_in, telling}

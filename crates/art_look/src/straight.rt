@@ -25,7 +25,7 @@ ghost use Rattle.art_step.specs.declared.views.View.{View};
 
 use crate::{Look, LookStage, PathBuffer};
 use art_cell::Cell;
-use art_find::Tally;
+use art_find::{Tally, read_leaf_word, read_word};
 use art_step::{Changed, Locked, Stamp, Steps};
 
 /// Makes the steps of a look of the range from the key on, one after another, as long as more than one turn is left: not the check that
@@ -117,11 +117,11 @@ fn read<S: Steps>(
 {
     match look.stage {
         LookStage::Anchor(stamp) => {
-            let word = steps.read(stamp, 1);
+            let word = read_word(steps, stamp, 1);
             hear_word(tally, look, lo, path_buffer, LookStage::Anchor(stamp), word);
         }
         LookStage::Header { stamp, node } => {
-            let word = steps.read(stamp, 1);
+            let word = read_word(steps, stamp, 1);
             hear_word(
                 tally,
                 look,
@@ -132,7 +132,7 @@ fn read<S: Steps>(
             );
         }
         LookStage::Prefix { seen, number } => {
-            let word = steps.read(seen.stamp, 2 + usize::from(number));
+            let word = read_word(steps, seen.stamp, 2 + usize::from(number));
             let stage = LookStage::Prefix { seen, number };
             hear_word(tally, look, lo, path_buffer, stage, word);
         }
@@ -141,7 +141,7 @@ fn read<S: Steps>(
             front,
             number,
         } => {
-            let word = steps.read(seen.stamp, 10 + usize::from(number));
+            let word = read_word(steps, seen.stamp, 10 + usize::from(number));
             let stage = LookStage::Keys {
                 seen,
                 front,
@@ -150,7 +150,7 @@ fn read<S: Steps>(
             hear_word(tally, look, lo, path_buffer, stage, word);
         }
         LookStage::Slot(sought) => {
-            let word = steps.read(sought.seen.stamp, sought.place);
+            let word = read_word(steps, sought.seen.stamp, sought.place);
             hear_word(tally, look, lo, path_buffer, LookStage::Slot(sought), word);
         }
         _ => unreachable!(),
@@ -175,7 +175,7 @@ fn read_leaf<S: Steps>(
 {
     match look.stage {
         LookStage::Value { stamp, leaf } => {
-            let word = steps.read_leaf(stamp, leaf, 0);
+            let word = read_leaf_word(steps, stamp, leaf, 0);
             hear_word(
                 tally,
                 look,
@@ -186,12 +186,12 @@ fn read_leaf<S: Steps>(
             );
         }
         LookStage::Length { stamp, leaf, value } => {
-            let word = steps.read_leaf(stamp, leaf, 1);
+            let word = read_leaf_word(steps, stamp, leaf, 1);
             let stage = LookStage::Length { stamp, leaf, value };
             hear_word(tally, look, lo, path_buffer, stage, word);
         }
         LookStage::Bytes { seen, number } => {
-            let word = steps.read_leaf(seen.stamp, seen.leaf, 2 + usize::from(number));
+            let word = read_leaf_word(steps, seen.stamp, seen.leaf, 2 + usize::from(number));
             hear_word(
                 tally,
                 look,

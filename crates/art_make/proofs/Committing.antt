@@ -10,8 +10,8 @@ use Rattle.art_cell.specs.declared.cells.Link.{Link}
 use Rattle.art_cell.specs.declared.cells.Link.TheVariants.{Node as node}
 use Rattle.art_cell.specs.declared.cells.Node.{Node}
 use Rattle.art_cell.specs.Words.{size}
-use Rattle.art_cell.specs.declared.layouts.Layout.{Layout}
-use Rattle.art_cell.specs.declared.layouts.Layout.TheVariants.{Node4, Node16, Node48, Node256}
+use Rattle.art_cell.specs.declared.cells.Layout.{Layout}
+use Rattle.art_cell.specs.declared.cells.Layout.TheVariants.{Node4, Node16, Node48, Node256}
 use Rattle.art_plan.specs.ArtCommit.AnyChange.{IsClaimed}
 use Rattle.art_plan.proofs.ArtCommit.Members.{claimed_nodes_come}
 use Rattle.art_make.specs.Apply.{Fails, GivesUp, HasFailed, IsCommitted, IsLocking, IsOver, IsReleasing, linked, so_many}

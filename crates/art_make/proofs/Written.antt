@@ -3,8 +3,8 @@ use Rattle.std.proofs.Common.{◌≡◌, Bool, ℕ, ◌+◌, ◌<◌, ◌≤◌,
 use Rattle.std.proofs.lemmas.Option.{slice_get_within}
 use Rattle.art_cell.specs.Words.{size}
 use Rattle.art_cell.specs.declared.cells.Node.{Node}
-use Rattle.art_cell.specs.declared.layouts.Layout.{Layout}
-use Rattle.art_cell.specs.declared.layouts.Layout.TheVariants.{Node4, Node16, Node48, Node256}
+use Rattle.art_cell.specs.declared.cells.Layout.{Layout}
+use Rattle.art_cell.specs.declared.cells.Layout.TheVariants.{Node4, Node16, Node48, Node256}
 use Rattle.art_make.proofs.Told.{claim_some, few_filled, two_are}
 use Rattle.art_make.specs.Apply.{Fits, IsLocking, OnlyWrites, at_fill, fills_left, is_writing, most_steps, so_many, words_left}
 use Rattle.art_make.specs.declared.apply.Apply.{Apply}

@@ -56,7 +56,6 @@
 
 mod apply;
 mod leaf_writer;
-mod words;
 
 pub use apply::Apply;
 pub use leaf_writer::LeafWriter;

@@ -1,8 +1,8 @@
 -- A node that gets two children.
 use Rattle.std.proofs.Common.{◌≡◌, ◌≢◌, ℕ, ◌<◌, ◌==◌, if◌then◌else◌, List, length, Option, Some, None, refl, sym, ap, subst, ◌∙◌, inl, inr, arith, eq-eqb, ne_eqb}
 use Rattle.std.proofs.lemmas.Bool.{cases_eq}
-use Rattle.art_cell.specs.declared.layouts.Layout.{Layout}
-use Rattle.art_cell.specs.declared.layouts.Layout.TheVariants.{Node4}
+use Rattle.art_cell.specs.declared.cells.Layout.{Layout}
+use Rattle.art_cell.specs.declared.cells.Layout.TheVariants.{Node4}
 use Rattle.art_cell.specs.Bodies.{Becomes, IsFull}
 use Rattle.art_cell.specs.Lemmas.Entries.{listed_none, one_more_listed}
 use Rattle.art_cell.specs.Reads.{with_child}

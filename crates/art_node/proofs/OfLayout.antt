@@ -1,7 +1,7 @@
 -- What is said of a node of its own layout, in the arm of a match that found which one it is.
 use Rattle.std.proofs.Common.{◌≡◌, ℕ, Some, subst}
-use Rattle.art_cell.specs.declared.bodies.Body.{Body}
-use Rattle.art_cell.specs.declared.layouts.Layout.{Layout}
+use Rattle.art_cell.specs.declared.cells.Body.{Body}
+use Rattle.art_cell.specs.declared.cells.Layout.{Layout}
 use Rattle.art_cell.specs.Bodies.{IsBody}
 use Rattle.art_cell.specs.Reads.{IsBodyOf, word_of}
 use Rattle.art_cell.specs.Words.{child_of}

@@ -6,8 +6,8 @@ use Rattle.std.proofs.lemmas.List.FromFn.{get_or-map-range_with_len, fill_by_all
 use Rattle.std.proofs.lemmas.Nat.{shr-shr}
 use Rattle.std.specs.List.{range_with_len}
 use Rattle.std.specs.Option.{option_and_then}
-use Rattle.art_cell.specs.declared.layouts.Layout.{Layout}
-use Rattle.art_cell.specs.declared.layouts.Layout.TheVariants.{Node4, Node16, Node48, Node256}
+use Rattle.art_cell.specs.declared.cells.Layout.{Layout}
+use Rattle.art_cell.specs.declared.cells.Layout.TheVariants.{Node4, Node16, Node48, Node256}
 use Rattle.art_cell.specs.Bodies.{HasForm, HasPrefix, IsBody, IsIndexed, IsSorted, used_count}
 use Rattle.art_cell.specs.Leaves.{IsLeaf, leaf_word, word_of_bytes}
 use Rattle.art_cell.specs.Lemmas.LeafWords.{words_mean_leaf}

@@ -1,7 +1,7 @@
 -- What one word after another tells of the children of a node.
 use Rattle.std.proofs.Common.{◌≡◌, refl, zero, suc, ◌-◌, ◌^◌, ℕ, ◌+◌, ◌*◌, ◌/◌, ◌%◌, ◌<◌, ◌≤◌, sym, subst, ap, ◌∙◌, arith}
-use Rattle.art_cell.specs.declared.layouts.Layout.{Layout}
-use Rattle.art_cell.specs.declared.layouts.Layout.TheVariants.{Node48}
+use Rattle.art_cell.specs.declared.cells.Layout.{Layout}
+use Rattle.art_cell.specs.declared.cells.Layout.TheVariants.{Node48}
 use Rattle.art_cell.specs.Bodies.{IsBody}
 use Rattle.art_cell.specs.Lemmas.Entries.{nonzero_some}
 use Rattle.art_cell.specs.Lemmas.Packed.{packed_is}

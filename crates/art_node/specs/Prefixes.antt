@@ -1,7 +1,7 @@
 -- A node with another prefix, and a node of two children.
 use Rattle.std.specs.Prelude.{◌≡◌, ℕ, ◌<◌, List, ◌==◌, if◌then◌else◌, Option, Some, None}
-use Rattle.art_cell.specs.declared.layouts.Layout.{Layout}
-use Rattle.art_cell.specs.declared.writes.Write.{Write}
+use Rattle.art_cell.specs.declared.cells.Layout.{Layout}
+use Rattle.art_cell.specs.declared.cells.Write.{Write}
 use Rattle.art_cell.specs.Bodies.{IsBody}
 use Rattle.art_cell.specs.Reads.{SameOutside, changes, written}
 use Rattle.art_cell.specs.Words.{Words, prefix_of, child_of}

@@ -15,15 +15,13 @@
 //! where one goes.
 #![tactic(auto)]
 
-mod leaves;
 mod nodes;
-mod prefixes;
 mod relaid;
 mod searches;
 mod words;
 
-pub use leaves::{leaf_word, pack, unpack};
 pub use nodes::{at_least, grow, list, plan_add, plan_drop, plan_set, probe, shrink};
-pub use prefixes::{fork, plan_prefix};
 pub use searches::{Sought, SoughtFrom, first_word, first_word_from, next_word, next_word_from};
-pub use words::{Header, child_word, link_in, prefix, read_header};
+pub use words::{
+    Header, child_word, fork, leaf_word, link_in, pack, plan_prefix, prefix, read_header, unpack,
+};

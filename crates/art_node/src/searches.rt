@@ -2,7 +2,7 @@
 //!
 //! Each answer needs the header, the byte and the word that was read last, and nothing of the words before it.
 ghost use Rattle.std.specs.Prelude.{◌≡◌, ◌<◌, ℕ};
-ghost use Rattle.art_cell.specs.declared.layouts.Layout.TheVariants as layouts;
+ghost use Rattle.art_cell.specs.declared.cells.Layout.TheVariants as layouts;
 ghost use Rattle.art_cell.specs.Words.{byte_of};
 ghost use Rattle.art_node4.specs.Sorted.{layout_of};
 ghost use Rattle.art_node.specs.Searches.{AsksCounted, AsksCountedFrom, GoesOnCounted};

@@ -8,7 +8,7 @@ use art_node4::Sorted;
 pub struct Node16;
 
 impl NodeKind for Node16 {
-    ghost use Rattle.art_cell.specs.declared.layouts.Layout.TheVariants as layouts;
+    ghost use Rattle.art_cell.specs.declared.cells.Layout.TheVariants as layouts;
 
     ghost layout = { layouts.Node16 };
 

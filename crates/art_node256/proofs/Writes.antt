@@ -1,12 +1,12 @@
 -- What the words mean after the child word of a byte, and the header, were written.
 use Rattle.std.proofs.Common.{◌≡◌, ◌≢◌, ◌⊎◌, ℕ, zero, suc, [], ◌∷◌, ◌+◌, ◌-◌, ◌/◌, ◌%◌, ◌^◌, ◌<◌, ◌≤◌, List, length, set, get_or, cond, eqb, Option, Some, None, refl, sym, ap, subst, ◌∙◌, inl, inr, arith, eq-eqb, ne_eqb, get_or-set_same, get_or-set_other, length-set}
 use Rattle.std.proofs.lemmas.Bool.{cases_eq}
-use Rattle.art_cell.specs.declared.layouts.Layout.TheVariants.{Node256}
+use Rattle.art_cell.specs.declared.cells.Layout.TheVariants.{Node256}
 use Rattle.art_cell.specs.Words.{Words, nonzero, child_of}
 use Rattle.art_cell.specs.Bodies.{IsBody, Becomes}
 use Rattle.art_cell.specs.Reads.{IsPlan, SameOutside, changes, most_writes, with_child, without_child, written}
 use Rattle.art_cell.specs.Lemmas.Differing.{after_prefix, differing_most, differing_one, exact_changes, one_differs}
-use Rattle.art_cell.specs.declared.writes.Write.{Write}
+use Rattle.art_cell.specs.declared.cells.Write.{Write}
 use Rattle.art_node256.specs.Changes.{both_words, child_words}
 use Rattle.art_cell.specs.Lemmas.Headers.{KeepsRest, count_more, count_less, prefix_len_kept, header_below}
 use Rattle.art_cell.specs.Lemmas.Entries.{Changed, listed_room, listed_some, nonzero_some, becomes_with, becomes_other, becomes_without}

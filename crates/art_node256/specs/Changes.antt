@@ -1,6 +1,6 @@
 -- Which words a child that comes, goes or is another one changes.
 use Rattle.std.specs.Prelude.{ℕ, ◌+◌, ◌==◌, List, [], ◌∷◌, if◌then◌else◌}
-use Rattle.art_cell.specs.declared.writes.Write.{Write}
+use Rattle.art_cell.specs.declared.cells.Write.{Write}
 
 -- the header and the child word of the byte, in ascending place
 abbrev pub both_words : ℕ → ℕ → ℕ → List Write

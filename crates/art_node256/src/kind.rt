@@ -21,7 +21,7 @@ fn place_of(byte: u8) -> usize
 pub struct Node256;
 
 impl NodeKind for Node256 {
-    ghost use Rattle.art_cell.specs.declared.layouts.Layout.TheVariants as layouts;
+    ghost use Rattle.art_cell.specs.declared.cells.Layout.TheVariants as layouts;
 
     ghost layout = { layouts.Node256 };
 

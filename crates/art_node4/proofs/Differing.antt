@@ -1,7 +1,7 @@
 -- How many words of a node differ, where its children were written.
 use Rattle.std.proofs.Common.{◌≡◌, ℕ, ◌<◌, ◌≤◌, List, length, get_or, set, refl, sym, arith, get_or-set_other}
 use Rattle.art_cell.specs.declared.node_kinds.Entry.{Entry}
-use Rattle.art_cell.specs.declared.layouts.Layout.TheVariants.{Node4, Node16}
+use Rattle.art_cell.specs.declared.cells.Layout.TheVariants.{Node4, Node16}
 use Rattle.art_cell.specs.Lemmas.Differing.{after_prefix, differing_most, one_differs}
 use Rattle.art_cell.specs.Reads.{changes, most_writes}
 use Rattle.art_cell.specs.Words.{Words}

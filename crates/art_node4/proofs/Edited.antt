@@ -8,16 +8,16 @@ use Rattle.std.proofs.lemmas.List.Edits.{get_or-insert_at, get_or-insert_below, 
 use Rattle.std.proofs.lemmas.List.FromFn.{get_or-map-range_with_len}
 use Rattle.art_cell.proofs.ChangedWords.{goes_on, no_change_where}
 use Rattle.art_cell.specs.Bodies.{IsBody}
-use Rattle.art_cell.specs.declared.layouts.Layout.{Layout}
+use Rattle.art_cell.specs.declared.cells.Layout.{Layout}
 use Rattle.art_cell.specs.declared.node_kinds.Entry.{Entry}
-use Rattle.art_cell.specs.declared.writes.Write.{Write}
+use Rattle.art_cell.specs.declared.cells.Write.{Write}
 use Rattle.art_cell.specs.Lemmas.Differing.{differing_most}
 use Rattle.art_cell.specs.Lemmas.Headers.{with_count, with_count_below}
 use Rattle.art_cell.specs.Lemmas.Packed.{IsEight, byte_of-from_be_bytes, from_be_bytes_below, packed_below, packed_is, same_word}
 use Rattle.art_cell.specs.Reads.{SameOutside}
 use Rattle.art_cell.specs.Words.{Words, byte_of, count_of, entries, first_child, key_byte, places, size}
-use Rattle.art_node4.specs.declared.edits.Edit.{Edit}
-use Rattle.art_node4.specs.declared.edits.Edit.TheVariants.{Add, Remove}
+use Rattle.art_node4.specs.declared.plans.Edit.{Edit}
+use Rattle.art_node4.specs.declared.plans.Edit.TheVariants.{Add, Remove}
 use Rattle.art_node4.specs.declared.layouts.Sorted.{Sorted}
 use Rattle.art_node4.specs.declared.layouts.Sorted.TheVariants.{Four, Sixteen}
 use Rattle.art_node4.specs.Edits.{CanEdit, Fit, changed, changes_to, edit_position, edited, key_word, most_used, rewritten}

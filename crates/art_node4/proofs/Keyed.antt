@@ -7,8 +7,8 @@ use Rattle.art_cell.specs.Bodies.{IsBody}
 use Rattle.art_cell.specs.declared.node_kinds.Entry.{Entry}
 use Rattle.art_cell.specs.Lemmas.Packed.{from_be_bytes_below, packed_is, same_word}
 use Rattle.art_cell.specs.Words.{Words, byte_of, entries, first_child}
-use Rattle.art_node4.specs.declared.edits.Edit.{Edit}
-use Rattle.art_node4.specs.declared.edits.Edit.TheVariants.{Add, Remove}
+use Rattle.art_node4.specs.declared.plans.Edit.{Edit}
+use Rattle.art_node4.specs.declared.plans.Edit.TheVariants.{Add, Remove}
 use Rattle.art_node4.specs.declared.layouts.Sorted.{Sorted}
 use Rattle.art_node4.specs.Edits.{CanEdit, edit_position, edited, key_word}
 use Rattle.art_node4.specs.Sorted.{entry_or_none, layout_of, no_entry}

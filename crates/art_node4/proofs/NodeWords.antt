@@ -7,7 +7,7 @@ use Rattle.std.proofs.lemmas.Bool.{cases_eq, cases_lt, cases_order}
 use Rattle.std.proofs.lemmas.List.Edits.{length-insert, length-remove}
 use Rattle.std.proofs.lemmas.List.{length-set, get_or_past}
 use Rattle.std.proofs.lemmas.List.FromFn.{length-map-range_with_len, get_or-map-range_with_len, map-range_with_len_more, fill_by_all}
-use Rattle.art_cell.specs.declared.layouts.Layout.{Layout}
+use Rattle.art_cell.specs.declared.cells.Layout.{Layout}
 use Rattle.art_cell.specs.declared.node_kinds.Entry.{Entry}
 use Rattle.art_cell.specs.Words.{Words, size, places, first_child, count_of, prefix_len, prefix_of, packed, key_byte, nonzero, sorted_child, child_of, entries}
 use Rattle.art_cell.specs.Bodies.{HasPrefix, IsSorted, HasForm, IsBody, Becomes}

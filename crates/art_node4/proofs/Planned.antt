@@ -6,11 +6,11 @@ use Rattle.std.proofs.lemmas.List.Edits.{length-insert, length-remove}
 use Rattle.art_cell.proofs.ChangedWords.{plan_from}
 use Rattle.art_cell.specs.Bodies.{IsBody}
 use Rattle.art_cell.specs.declared.node_kinds.Entry.{Entry}
-use Rattle.art_cell.specs.declared.writes.Write.{Write}
+use Rattle.art_cell.specs.declared.cells.Write.{Write}
 use Rattle.art_cell.specs.Lemmas.Differing.{exact_changes}
 use Rattle.art_cell.specs.Reads.{IsPlan, changes, most_writes, with_child, without_child, written}
 use Rattle.art_cell.specs.Words.{Words, child_of, entries, first_child, places, size}
-use Rattle.art_node4.specs.declared.edits.Edit.TheVariants.{Add, Remove}
+use Rattle.art_node4.specs.declared.plans.Edit.TheVariants.{Add, Remove}
 use Rattle.art_node4.specs.declared.layouts.Sorted.{Sorted}
 use Rattle.art_node4.specs.Edits.{CanEdit, changed, rewritten}
 use Rattle.art_node4.specs.Sorted.{IsPosition, layout_of}

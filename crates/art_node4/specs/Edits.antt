@@ -2,15 +2,15 @@
 use Rattle.std.specs.Prelude.{ℕ, ◌+◌, ◌-◌, ◌*◌, ◌^◌, ◌<◌, ◌≤◌, List, [], ◌∷◌, length, map, filter_map, nat_lt, ◌==◌, if◌then◌else◌}
 use Rattle.std.specs.Int.{w64, from_be_bytes}
 use Rattle.std.specs.List.{range_with_len, insert, remove}
-use Rattle.art_cell.specs.declared.bodies.Body.{Body}
-use Rattle.art_cell.specs.declared.layouts.Layout.{Layout}
+use Rattle.art_cell.specs.declared.cells.Body.{Body}
+use Rattle.art_cell.specs.declared.cells.Layout.{Layout}
 use Rattle.art_cell.specs.declared.node_kinds.Entry.{Entry}
-use Rattle.art_cell.specs.declared.writes.Write.{Write}
+use Rattle.art_cell.specs.declared.cells.Write.{Write}
 use Rattle.art_cell.specs.Lemmas.Headers.{with_count}
 use Rattle.art_cell.specs.Reads.{IsBodyOf, change_at, word_of}
 use Rattle.art_cell.specs.Words.{Words, entries, first_child, places, size}
-use Rattle.art_node4.specs.declared.edits.Edit.{Edit}
-use Rattle.art_node4.specs.declared.edits.Edit.TheVariants.{Add, Remove}
+use Rattle.art_node4.specs.declared.plans.Edit.{Edit}
+use Rattle.art_node4.specs.declared.plans.Edit.TheVariants.{Add, Remove}
 use Rattle.art_node4.specs.declared.layouts.Sorted.{Sorted}
 use Rattle.art_node4.specs.Sorted.{entry_or_none, layout_of}
 

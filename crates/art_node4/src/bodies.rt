@@ -7,7 +7,7 @@ ghost use Rattle.art_node4.specs.Sorted.{layout_of};
 
 use crate::Sorted;
 use crate::lists::{Children, count, listed, position};
-use crate::writes::write;
+use crate::plans::write;
 use art_cell::{Body, Entry};
 
 /// Gives the byte, which has none, this child. False, with nothing changed, where each position is in use.

@@ -5,14 +5,12 @@
 #![tactic(auto)]
 
 mod bodies;
-mod edits;
 mod keys;
 mod layouts;
 mod lists;
 mod plans;
 mod probes;
 mod searches;
-mod writes;
 
 use art_cell::{Body, Entries, Entry, NextProbe, NodeKind, Probe, Reads, Writes};
 pub use bodies::{add, set, take};
@@ -25,7 +23,7 @@ pub use probes::{at_least, probe};
 pub struct Node4;
 
 impl NodeKind for Node4 {
-    ghost use Rattle.art_cell.specs.declared.layouts.Layout.TheVariants as layouts;
+    ghost use Rattle.art_cell.specs.declared.cells.Layout.TheVariants as layouts;
 
     ghost layout = { layouts.Node4 };
 

@@ -1,7 +1,7 @@
 -- How many words of a node of 48 places differ after a change of one child.
 use Rattle.std.proofs.Common.{◌≡◌, ◌≢◌, ℕ, ◌+◌, ◌-◌, ◌*◌, ◌/◌, ◌%◌, ◌^◌, ◌<◌, ◌≤◌, length, refl, sym, ap, ◌∙◌, inl, inr, arith}
 use Rattle.std.proofs.lemmas.Bool.{cases_eq, cases_lt}
-use Rattle.art_cell.specs.declared.layouts.Layout.TheVariants.{Node48}
+use Rattle.art_cell.specs.declared.cells.Layout.TheVariants.{Node48}
 use Rattle.art_cell.specs.Lemmas.Differing.{after_prefix, differing_one, one_differs}
 use Rattle.art_cell.specs.Lemmas.Packed.{same_word}
 use Rattle.art_cell.specs.Reads.{changes, most_writes}

@@ -1,8 +1,8 @@
 -- The words that a change of one child writes are just those that differ.
 use Rattle.std.proofs.Common.{◌≡◌, ◌≢◌, ℕ, suc, ◌+◌, ◌/◌, ◌%◌, ◌^◌, ◌<◌, ◌≤◌, List, [], ◌∷◌, Some, refl, sym, subst, ap, ◌∙◌, inl, inr, arith, eq-eqb, ne_eqb}
 use Rattle.std.proofs.lemmas.Bool.{cases_eq}
-use Rattle.art_cell.specs.declared.layouts.Layout.TheVariants.{Node48}
-use Rattle.art_cell.specs.declared.writes.Write.{Write}
+use Rattle.art_cell.specs.declared.cells.Layout.TheVariants.{Node48}
+use Rattle.art_cell.specs.declared.cells.Write.{Write}
 use Rattle.art_cell.specs.Lemmas.Differing.{exact_changes}
 use Rattle.art_cell.specs.Lemmas.Packed.{with_byte}
 use Rattle.art_cell.specs.Bodies.{IsBody}

@@ -1,7 +1,7 @@
 -- What one change of a child writes, and which place a new child takes.
 use Rattle.std.specs.Prelude.{◌≡◌, ◌≢◌, ℕ, ◌+◌, ◌/◌, ◌%◌, ◌^◌, ◌<◌, ◌≤◌, ◌==◌, List, [], ◌∷◌, Option, Some, None, if◌then◌else◌}
 use Rattle.art_cell.specs.Lemmas.Packed.{with_byte}
-use Rattle.art_cell.specs.declared.writes.Write.{Write}
+use Rattle.art_cell.specs.declared.cells.Write.{Write}
 use Rattle.art_cell.specs.Words.{Words, key_byte}
 
 -- the header, the index entry of one byte and the child of one place are written, and nothing else

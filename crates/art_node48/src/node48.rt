@@ -26,7 +26,7 @@ const PLACES: usize = 48;
 pub struct Node48;
 
 impl NodeKind for Node48 {
-    ghost use Rattle.art_cell.specs.declared.layouts.Layout.TheVariants.{Node48};
+    ghost use Rattle.art_cell.specs.declared.cells.Layout.TheVariants.{Node48};
 
     ghost layout = { Node48 };
 

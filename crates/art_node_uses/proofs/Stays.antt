@@ -1,7 +1,7 @@
 -- A body stays one, and a body of a layout is one of its own.
 use Rattle.std.proofs.Common.{◌≡◌, ℕ, Bool, true, false, Option, refl, sym, subst, ◌∙◌}
-use Rattle.art_cell.specs.declared.layouts.Layout.{Layout}
-use Rattle.art_cell.specs.declared.bodies.Body.{Body}
+use Rattle.art_cell.specs.declared.cells.Layout.{Layout}
+use Rattle.art_cell.specs.declared.cells.Body.{Body}
 use Rattle.art_cell.specs.Bodies.{IsBody, Becomes}
 use Rattle.art_cell.specs.Reads.{IsBodyOf, word_of}
 

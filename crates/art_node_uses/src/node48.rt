@@ -1,5 +1,5 @@
 //! Worked words of a Node48.
-ghost use Rattle.art_cell.specs.declared.layouts.Layout.TheVariants as layouts;
+ghost use Rattle.art_cell.specs.declared.cells.Layout.TheVariants as layouts;
 ghost use Rattle.art_cell.specs.Reads.{IsBodyOf};
 
 use crate::kinds::{

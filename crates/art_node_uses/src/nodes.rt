@@ -1,6 +1,6 @@
 //! Nodes whatever their layout: those that grow and shrink, and the same changes in each layout.
 ghost use Rattle.std.specs.Prelude.{◌≡◌};
-ghost use Rattle.art_cell.specs.declared.layouts.Layout.TheVariants as layouts;
+ghost use Rattle.art_cell.specs.declared.cells.Layout.TheVariants as layouts;
 ghost use Rattle.art_cell.specs.Reads.{IsBodyOf};
 
 use crate::kinds::{all_read, bare, change, check_words, give, remove};

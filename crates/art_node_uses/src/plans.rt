@@ -1,6 +1,6 @@
 //! Plans of a Node256, by the words that they write, and nodes with a prefix.
 ghost use Rattle.std.specs.Prelude.{◌<◌};
-ghost use Rattle.art_cell.specs.declared.layouts.Layout.TheVariants as layouts;
+ghost use Rattle.art_cell.specs.declared.cells.Layout.TheVariants as layouts;
 ghost use Rattle.art_cell.specs.Reads.{IsBodyOf};
 
 use crate::kinds::{check_words, child, empty, give};

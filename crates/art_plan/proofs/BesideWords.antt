@@ -4,8 +4,8 @@ use Rattle.std.proofs.lemmas.Bool.{cases_lt}
 use Rattle.std.specs.Bool.{then_some}
 use Rattle.art_cell.specs.Reads.{IsLeastFrom, IsUnread, NextNeeds, NextTells, NoneFrom, word_read}
 use Rattle.art_cell.specs.Words.{Words, child_of, first_child}
-use Rattle.art_cell.specs.declared.layouts.Layout.{Layout}
-use Rattle.art_cell.specs.declared.layouts.Layout.TheVariants.{Node4, Node16, Node48, Node256}
+use Rattle.art_cell.specs.declared.cells.Layout.{Layout}
+use Rattle.art_cell.specs.declared.cells.Layout.TheVariants.{Node4, Node16, Node48, Node256}
 use Rattle.art_cell.specs.declared.node_kinds.Entry.{Entry}
 use Rattle.art_cell.specs.declared.node_kinds.NextProbe.{NextProbe}
 use Rattle.art_cell.specs.declared.node_kinds.NextProbe.TheVariants.{Need, Entry as Told, None as Nothing}

@@ -1,13 +1,14 @@
 -- The words of a body have the forms of their places.
 use Rattle.std.proofs.Common.{◌≡◌, ◌≢◌, ℕ, zero, suc, ◌+◌, ◌-◌, ◌*◌, ◌/◌, ◌%◌, ◌^◌, ◌<◌, ◌≤◌, length, Option, Some, None, refl, sym, ap, ap₂, ◌∙◌, subst, arith}
 use Rattle.art_cell.specs.Bodies.{IsBody, used_count}
-use Rattle.art_cell.specs.Words.{Words, byte_of, child_of, count_of, entry_at, key_byte, listed, packed, places}
+use Rattle.art_cell.specs.Words.{Words, byte_of, child_of, count_of, entry_at, key_byte, listed, packed, places, size}
 use Rattle.art_cell.specs.declared.cells.Cell.TheVariants as cell
 use Rattle.art_cell.specs.declared.cells.Node.{Node}
-use Rattle.art_cell.specs.declared.layouts.Layout.{Layout}
-use Rattle.art_cell.specs.declared.layouts.Layout.TheVariants.{Node4, Node16, Node48, Node256}
+use Rattle.art_cell.specs.declared.cells.Layout.{Layout}
+use Rattle.art_cell.specs.declared.cells.Layout.TheVariants.{Node4, Node16, Node48, Node256}
 use Rattle.art_cell.specs.declared.node_kinds.Entry.{Entry}
 use Rattle.art_plan.proofs.ChildPlaces.{IsPlaceOf, NameThere, words_there}
+use Rattle.art_plan.proofs.WordsWithin.{past_prefix}
 use Rattle.art_step.specs.Views.{IsHeader, IsIndexWord, IsWordOf}
 use Rattle.art_step.specs.declared.views.Sizes.{Sizes}
 
@@ -75,4 +76,15 @@ same_form z m n i x same form = record {
   index = λ o is big late low. let of : m ≡ o = cc in form.index n refl (sym same ∙ (ap (λ (y : Node). y.layout) of ∙ big)) late low;
   length = λ l is. absurd (cc);
   child = λ place. form.child (subst (λ (l : Layout). IsPlaceOf l i) same place);
+}
+
+-- behind the words of a node any may stand
+pub any_behind : (z : Sizes) (n : Node) (i x : ℕ) → size n.layout ≤ i → IsWordOf z (cell.Node n) i x
+any_behind z n i x high = record {
+  header = λ o is at. let some = past_prefix n.layout in absurd (omega (arith, high, at, some));
+  index = λ o is big late low. let of : n ≡ o = cc in
+      let long : size Node48 ≤ i = subst (λ (l : Layout). size l ≤ i) (ap (λ (y : Node). y.layout) of ∙ big) high in
+      absurd (omega (arith, long, low));
+  length = λ l is. absurd (cc);
+  child = λ place. absurd (omega (arith, place.1, high));
 }

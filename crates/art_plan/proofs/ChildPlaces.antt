@@ -7,8 +7,8 @@ use Rattle.std.specs.Option.{option_and_then}
 use Rattle.art_cell.specs.Bodies.{IsBody, IsIndexed, IsSorted}
 use Rattle.art_cell.specs.Reads.{with_child, without_child}
 use Rattle.art_cell.specs.Words.{Words, child_of, count_of, first_child, indexed_child, is_used, key_byte, nonzero, size, sorted_child}
-use Rattle.art_cell.specs.declared.layouts.Layout.{Layout}
-use Rattle.art_cell.specs.declared.layouts.Layout.TheVariants.{Node4, Node16, Node48, Node256}
+use Rattle.art_cell.specs.declared.cells.Layout.{Layout}
+use Rattle.art_cell.specs.declared.cells.Layout.TheVariants.{Node4, Node16, Node48, Node256}
 use Rattle.art_step.specs.Views.{IsChildWord}
 use Rattle.art_step.specs.declared.views.Sizes.{Sizes}
 

@@ -2,7 +2,7 @@
 use Rattle.std.proofs.Common.{◌≡◌, ℕ, ◌-◌, ◌<◌, ◌≤◌, List, [], ◌∷◌, ◌++◌, length, get_or, take, Option, Some, refl, sym, ap, ◌∙◌, subst, arith, get_or-take, length-take-le, length-append}
 use Rattle.std.proofs.lemmas.List.{get_or_push}
 use Rattle.std.specs.Borrow.{Bor}
-use Rattle.art_cell.specs.declared.bodies.Body.{Body}
+use Rattle.art_cell.specs.declared.cells.Body.{Body}
 use Rattle.art_cell.specs.declared.cells.Cell.{Cell}
 use Rattle.art_cell.specs.declared.cells.Cell.TheVariants as cell
 use Rattle.art_cell.specs.declared.cells.Link.{Link}
@@ -10,7 +10,7 @@ use Rattle.art_cell.specs.declared.cells.Node.{Node}
 use Rattle.art_plan.specs.ChooseInsert.Bodies.{IsFilled, site_by, site_in}
 use Rattle.art_plan.specs.Puts.{IsTaken}
 use Rattle.art_plan.specs.Seen.{HasAt, SiteFits, site_stamp}
-use Rattle.art_plan.specs.declared.sites.Site.{Site}
+use Rattle.art_plan.specs.declared.changes.Site.{Site}
 use Rattle.art_step.specs.Knowledge.{HoldsAll, IsShape}
 use Rattle.art_step.specs.Shows.{HasChild, Shows}
 use Rattle.art_step.specs.WordPlaces.{HasVersion}

@@ -7,15 +7,15 @@ use Rattle.art_plan.proofs.NewWords.{IsOtherRoot}
 use Rattle.art_plan.proofs.RootWords.{root_none}
 use Rattle.art_plan.specs.ChooseInsert.Seen.{IsSeen}
 use Rattle.art_find.specs.Verdicts.{Says}
-use Rattle.art_find.specs.declared.verdicts.Verdict.{Verdict}
-use Rattle.art_find.specs.declared.verdicts.Verdict.TheVariants.{Empty}
+use Rattle.art_find.specs.declared.descents.Verdict.{Verdict}
+use Rattle.art_find.specs.declared.descents.Verdict.TheVariants.{Empty}
 use Rattle.art_plan.specs.Insert.Cases.{IsAdd, IsInHand}
-use Rattle.art_plan.specs.declared.insert.leaves.NewLeaf.{NewLeaf}
+use Rattle.art_plan.specs.declared.insert.NewLeaf.{NewLeaf}
 use Rattle.art_find.specs.ReadSets.{node_of}
 use Rattle.art_find.specs.Findings.{IsStanding}
 use Rattle.art_find.specs.declared.read_sets.ReadSet.{ReadSet}
 use Rattle.art_find.specs.declared.findings.Position.{Position}
-use Rattle.art_plan.specs.declared.sites.Site.TheVariants.{Root}
+use Rattle.art_plan.specs.declared.changes.Site.TheVariants.{Root}
 use Rattle.art_step.specs.declared.views.Sizes.{Sizes}
 use Rattle.art_step.specs.declared.views.View.{View}
 use Rattle.art_plan.proofs.WholeCells.{node_whole, read_root}

@@ -10,7 +10,7 @@ use Rattle.art_cell.specs.Words.{Words, child_of, count_of, listed}
 use Rattle.art_cell.specs.declared.cells.Cell.TheVariants as cell
 use Rattle.art_cell.specs.declared.cells.Link.{Link}
 use Rattle.art_cell.specs.declared.cells.Node.{Node}
-use Rattle.art_cell.specs.declared.layouts.Layout.{Layout}
+use Rattle.art_cell.specs.declared.cells.Layout.{Layout}
 use Rattle.art_cell.specs.declared.node_kinds.Entry.{Entry}
 use Rattle.art_step.proofs.Shows.{child_on}
 use Rattle.art_step.specs.Knowledge.{IsNodeCell, NamesCell}

@@ -5,7 +5,7 @@ use Rattle.std.proofs.lemmas.List.{take-append-drop}
 use Rattle.std.proofs.lemmas.Option.{same_Some}
 use Rattle.std.proofs.Math.Seq.{drop-cons}
 use Rattle.art_cell.specs.Words.{Words}
-use Rattle.art_cell.specs.declared.layouts.Layout.TheVariants.{Node4}
+use Rattle.art_cell.specs.declared.cells.Layout.TheVariants.{Node4}
 use Rattle.art_node.specs.Prefixes.{IsNodeOf, two_of}
 use Rattle.art_plan.proofs.ChildPlaces.{NameThere}
 use Rattle.art_step.specs.Views.{IsChildWord}

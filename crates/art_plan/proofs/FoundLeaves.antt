@@ -5,7 +5,7 @@ use Rattle.art_cell.specs.Bodies.{IsBody}
 use Rattle.art_cell.specs.Children.{child_word}
 use Rattle.art_cell.specs.Reads.{word_of}
 use Rattle.art_cell.specs.Words.{child_of}
-use Rattle.art_cell.specs.declared.bodies.Body.{Body}
+use Rattle.art_cell.specs.declared.cells.Body.{Body}
 use Rattle.art_cell.specs.declared.cells.Cell.{Cell}
 use Rattle.art_cell.specs.declared.cells.Cell.TheVariants as cell
 use Rattle.art_cell.specs.declared.cells.Link.TheVariants.{Leaf as leaf, Node as node}
@@ -21,8 +21,8 @@ use Rattle.art_plan.proofs.WholeCells.{IsWhole, node_whole}
 use Rattle.art_plan.specs.ChooseInsert.Bodies.{IsFilled, site_in}
 use Rattle.art_plan.specs.ChooseInsert.Seen.{WasSeen}
 use Rattle.art_plan.specs.ArtFind.Verdicts.{IsFound, Says}
-use Rattle.art_plan.specs.ArtFind.declared.verdicts.Verdict.{Verdict}
-use Rattle.art_plan.specs.ArtFind.declared.verdicts.Verdict.TheVariants.{Found}
+use Rattle.art_plan.specs.ArtFind.declared.descents.Verdict.{Verdict}
+use Rattle.art_plan.specs.ArtFind.declared.descents.Verdict.TheVariants.{Found}
 use Rattle.art_plan.specs.ArtFind.ReadSets.{above_of, node_of}
 use Rattle.art_plan.specs.ArtFind.Findings.{IsStanding}
 use Rattle.art_plan.specs.ArtFind.declared.read_sets.ReadSet.{ReadSet}
@@ -30,9 +30,9 @@ use Rattle.art_plan.specs.ArtFind.declared.findings.Above.{Above}
 use Rattle.art_plan.specs.ArtFind.declared.findings.Position.{Position}
 use Rattle.art_plan.specs.Puts.{IsTaken}
 use Rattle.art_plan.specs.Seen.{HasBelow}
-use Rattle.art_plan.specs.declared.sites.Site.{Site}
+use Rattle.art_plan.specs.declared.changes.Site.{Site}
 use Rattle.art_plan.specs.Remove.Cases.{IsDrop, IsOldLeaf}
-use Rattle.art_plan.specs.declared.remove.leaves.OldLeaf.{OldLeaf}
+use Rattle.art_plan.specs.declared.remove.OldLeaf.{OldLeaf}
 use Rattle.art_step.specs.Shows.{HasChild, Shows}
 use Rattle.art_step.specs.declared.views.Sizes.{Sizes}
 use Rattle.art_step.specs.declared.views.Stamp.{Stamp}

@@ -4,33 +4,33 @@ use Rattle.std.specs.Borrow.{Bor}
 use Rattle.art_cell.specs.Bodies.{IsBody, IsFull}
 use Rattle.art_cell.specs.Reads.{word_of}
 use Rattle.art_cell.specs.Words.{child_of, places}
-use Rattle.art_cell.specs.declared.bodies.Body.{Body}
+use Rattle.art_cell.specs.declared.cells.Body.{Body}
 use Rattle.art_cell.specs.declared.cells.Cell.TheVariants as cell
 use Rattle.art_cell.specs.declared.cells.Node.{Node}
-use Rattle.art_cell.specs.declared.layouts.Layout.{Layout}
-use Rattle.art_cell.specs.declared.layouts.Layout.TheVariants.{Node4, Node16, Node48, Node256}
+use Rattle.art_cell.specs.declared.cells.Layout.{Layout}
+use Rattle.art_cell.specs.declared.cells.Layout.TheVariants.{Node4, Node16, Node48, Node256}
 use Rattle.art_plan.specs.ChooseInsert.Bodies.{IsFilled}
 use Rattle.art_plan.specs.ChooseInsert.Needs.{full_needs, needs_of, nothing}
 use Rattle.art_plan.specs.ChooseInsert.Seen.{IsSeen}
-use Rattle.art_plan.specs.declared.choose_insert.needs.Needs.{Needs}
+use Rattle.art_plan.specs.declared.choose_insert.Needs.{Needs}
 use Rattle.art_find.specs.Ways.{IsPastPrefix}
 use Rattle.art_find.specs.Verdicts.{IsFree, Says}
-use Rattle.art_find.specs.declared.verdicts.Verdict.{Verdict}
-use Rattle.art_find.specs.declared.verdicts.Verdict.TheVariants.{NoChild}
+use Rattle.art_find.specs.declared.descents.Verdict.{Verdict}
+use Rattle.art_find.specs.declared.descents.Verdict.TheVariants.{NoChild}
 use Rattle.art_plan.proofs.GrownNodes.{not_largest}
 use Rattle.art_plan.proofs.MadeNodes.{key_small}
 use Rattle.art_plan.proofs.WordsWithin.{past_prefix}
 use Rattle.art_plan.specs.Insert.Cases.{IsAdd, IsInHand}
 use Rattle.art_plan.specs.Puts.{HasRoom, IsCrowded}
-use Rattle.art_plan.specs.declared.insert.leaves.NewLeaf.{NewLeaf}
+use Rattle.art_plan.specs.declared.insert.NewLeaf.{NewLeaf}
 use Rattle.art_node.specs.Sizes.{larger}
 use Rattle.art_find.specs.ReadSets.{node_of}
 use Rattle.art_find.specs.Findings.{IsStanding}
 use Rattle.art_find.specs.declared.read_sets.ReadSet.{ReadSet}
 use Rattle.art_find.specs.declared.findings.Position.{Position}
 use Rattle.art_plan.specs.Seen.{HasAt}
-use Rattle.art_plan.specs.declared.sites.Site.{Site}
-use Rattle.art_plan.specs.declared.sites.Site.TheVariants.{Slot}
+use Rattle.art_plan.specs.declared.changes.Site.{Site}
+use Rattle.art_plan.specs.declared.changes.Site.TheVariants.{Slot}
 use Rattle.art_step.specs.declared.views.Sizes.{Sizes}
 use Rattle.art_step.specs.declared.views.Stamp.{Stamp}
 use Rattle.art_step.specs.declared.views.View.{View}

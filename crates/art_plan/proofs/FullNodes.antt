@@ -4,31 +4,31 @@ use Rattle.std.specs.Borrow.{Bor}
 use Rattle.art_cell.specs.Children.{child_word}
 use Rattle.art_cell.specs.Reads.{word_of}
 use Rattle.art_cell.specs.Words.{prefix_of}
-use Rattle.art_cell.specs.declared.bodies.Body.{Body}
+use Rattle.art_cell.specs.declared.cells.Body.{Body}
 use Rattle.art_cell.specs.declared.cells.Cell.TheVariants as cell
 use Rattle.art_cell.specs.declared.cells.Link.TheVariants.{Node as node}
 use Rattle.art_cell.specs.declared.cells.Node.{Node}
-use Rattle.art_cell.specs.declared.layouts.Layout.{Layout}
+use Rattle.art_cell.specs.declared.cells.Layout.{Layout}
 use Rattle.art_plan.specs.ArtCommit.CommitLaws.{HasNode}
 use Rattle.art_plan.specs.ChooseInsert.Bodies.{IsFilled, site_in}
 use Rattle.art_plan.specs.ChooseInsert.Needs.{needs_of}
 use Rattle.art_plan.specs.ChooseInsert.Plans.{HasNeeded, gives_way}
 use Rattle.art_plan.specs.ChooseInsert.Seen.{IsSeen}
-use Rattle.art_find.specs.declared.verdicts.Verdict.{Verdict}
-use Rattle.art_find.specs.declared.verdicts.Verdict.TheVariants.{NoChild}
+use Rattle.art_find.specs.declared.descents.Verdict.{Verdict}
+use Rattle.art_find.specs.declared.descents.Verdict.TheVariants.{NoChild}
 use Rattle.art_plan.proofs.MadeNodes.{key_small}
 use Rattle.art_plan.proofs.ForkNodes.{begins_at}
 use Rattle.art_plan.specs.Seen.{HasBelow}
 use Rattle.art_plan.specs.Insert.Cases.{IsGrow, IsInHand}
 use Rattle.art_plan.specs.Insert.Puts.{larger_node}
-use Rattle.art_plan.specs.declared.insert.leaves.NewLeaf.{NewLeaf}
+use Rattle.art_plan.specs.declared.insert.NewLeaf.{NewLeaf}
 use Rattle.art_node.specs.Sizes.{larger}
 use Rattle.art_find.specs.ReadSets.{above_of, node_of}
 use Rattle.art_find.specs.Findings.{IsStanding}
 use Rattle.art_find.specs.declared.read_sets.ReadSet.{ReadSet}
 use Rattle.art_find.specs.declared.findings.Above.{Above}
 use Rattle.art_find.specs.declared.findings.Position.{Position}
-use Rattle.art_plan.specs.declared.sites.Site.{Site}
+use Rattle.art_plan.specs.declared.changes.Site.{Site}
 use Rattle.art_step.specs.declared.views.Sizes.{Sizes}
 use Rattle.art_step.specs.declared.views.View.{View}
 use Rattle.art_tree.proofs.Places.{one_path}

@@ -7,16 +7,17 @@ use Rattle.art_cell.specs.Bodies.{IsBody}
 use Rattle.art_cell.specs.Children.{child_word, coded, link_of}
 use Rattle.art_cell.specs.Reads.{word_of}
 use Rattle.art_cell.specs.Words.{Words, child_of, prefix_of}
-use Rattle.art_cell.specs.declared.bodies.Body.{Body}
+use Rattle.art_cell.specs.declared.cells.Body.{Body}
 use Rattle.art_cell.specs.declared.cells.Cell.{Cell}
 use Rattle.art_cell.specs.declared.cells.Cell.TheVariants as cell
 use Rattle.art_cell.specs.declared.cells.Link.{Link}
 use Rattle.art_cell.specs.declared.cells.Link.TheVariants.{Leaf as leaf, Node as node}
 use Rattle.art_cell.specs.declared.cells.Node.{Node}
-use Rattle.art_cell.specs.declared.layouts.Layout.{Layout}
+use Rattle.art_cell.specs.declared.cells.Layout.{Layout}
 use Rattle.art_commit.specs.AnyChange.{SameMembers}
 use Rattle.art_commit.specs.CommitLaws.{Before}
-use Rattle.art_plan.proofs.MadeNodes.{node_prefix_is}
+use Rattle.art_plan.proofs.CutWords.{cut_body, cut_child, cut_words}
+use Rattle.art_plan.proofs.MadeNodes.{cut_node_prefix}
 use Rattle.art_plan.proofs.Planning.{OnlyGoes}
 use Rattle.art_plan.proofs.ReadyCells.{same_words}
 use Rattle.art_plan.proofs.SiteWords.{whole_before}
@@ -45,7 +46,7 @@ high_child s n e high = child_is s n e ∙ ap (λ t. cond t (option_and_then lin
 
 module _ (z : Sizes) (u v : View) (c : Change) (ready : IsReady u c v) (s s' : Cells) (b : Before z v s s') (x : Stamp) (is : target_at c 1 ≡ Some (gone x)) (none : (ws : List ℕ) → with_puts 1 c.puts.items ws ≡ ws)
     (n : Node) (body : Body) (read : IsReadWhole z u x n body) where
-  pub gone_words : s (cell.Node n) ≡ word_of body
+  pub gone_words : s (cell.Node n) ≡ cut_words body.layout (word_of body)
   gone_words = whole_before z u v c ready s s' b 1 (gone x) is [] none n body read
 
   -- they stay
@@ -53,14 +54,17 @@ module _ (z : Sizes) (u v : View) (c : Change) (ready : IsReady u c v) (s s' : C
   gone_same = subst (λ (d : Cell). s' d ≡ s d) read.cell (same_words z u v c ready s s' b 1 (gone x) is none)
 
   -- its prefix, and its children
-  pub gone_prefix : IsBody body.layout (word_of body) → node_prefix (s (cell.Node n)) ≡ prefix_of (word_of body)
-  gone_prefix meaning = ap node_prefix gone_words ∙ node_prefix_is body.layout (word_of body) meaning
+  module _ (meaning : IsBody body.layout (word_of body)) where
+    pub gone_prefix : node_prefix (s (cell.Node n)) ≡ prefix_of (word_of body)
+    gone_prefix = ap node_prefix gone_words ∙ cut_node_prefix body.layout (word_of body) meaning
 
-  pub gone_children : child_of n.layout (s (cell.Node n)) ≡ child_of body.layout (word_of body)
-  gone_children = ap₂ (λ (l : Layout) (ws : Words). child_of l ws) (sym read.layout) gone_words
+    pub gone_children : (b : ℕ) → b < 256 → child_of n.layout (s (cell.Node n)) b ≡ child_of body.layout (word_of body) b
+    gone_children b low =
+        ap₂ (λ (l : Layout) (ws : Words). child_of l ws b) (sym read.layout) gone_words
+        ∙ sym (cut_child body.layout (word_of body) (cut_body body.layout (word_of body) meaning) b low)
 
-  pub gone_child : (byte : ℕ) (d : Link) → byte < 256 → FitsWord d → child_of body.layout (word_of body) byte ≡ Some (child_word d) → child_at_place (heap_of s) (tree.Slot n byte) ≡ Some d
-  gone_child byte d low fits at = child_on s n byte (Some (child_word d)) low (ap (λ (f : ℕ → Option ℕ). f byte) gone_children ∙ at) ∙ link_back d fits
+    pub gone_child : (byte : ℕ) (d : Link) → byte < 256 → FitsWord d → child_of body.layout (word_of body) byte ≡ Some (child_word d) → child_at_place (heap_of s) (tree.Slot n byte) ≡ Some d
+    gone_child byte d low fits at = child_on s n byte (Some (child_word d)) low (gone_children byte low ∙ at) ∙ link_back d fits
 
   -- where it has two children it has no third
   pub gone_no_third : (byte word beside other : ℕ) → HasPair body byte word beside other → (e : ℕ) → e ≢ beside → e ≢ byte → child_at_place (heap_of s) (tree.Slot n e) ≡ None
@@ -68,7 +72,7 @@ module _ (z : Sizes) (u v : View) (c : Change) (ready : IsReady u c v) (s s' : C
       (λ (low : e < 256).
       let counted = pair.meaning.counted in
       let two = pair.two in
-      child_on s n e None low (ap (λ (f : ℕ → Option ℕ). f e) gone_children
+      child_on s n e None low (gone_children pair.meaning e low
       ∙ no_third (child_of body.layout (word_of body)) beside byte other word pair.low_beside pair.low pair.apart pair.another pair.one (omega (arith, counted, two)) e low not_beside not_byte))
       (λ (high : 256 ≤ e). high_child s n e high)
       (cases_lt e 256)

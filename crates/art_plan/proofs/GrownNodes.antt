@@ -5,9 +5,9 @@ use Rattle.art_cell.specs.Bodies.{Becomes, IsBody, IsFull, IsRelaid}
 use Rattle.art_cell.specs.Lemmas.Entries.{listed_room, same_listed}
 use Rattle.art_cell.specs.Reads.{IsBodyOf, with_child, word_of}
 use Rattle.art_cell.specs.Words.{Words, child_of, count_of, places, prefix_of}
-use Rattle.art_cell.specs.declared.bodies.Body.{Body}
-use Rattle.art_cell.specs.declared.layouts.Layout.{Layout}
-use Rattle.art_cell.specs.declared.layouts.Layout.TheVariants.{Node256}
+use Rattle.art_cell.specs.declared.cells.Body.{Body}
+use Rattle.art_cell.specs.declared.cells.Layout.{Layout}
+use Rattle.art_cell.specs.declared.cells.Layout.TheVariants.{Node256}
 use Rattle.art_plan.specs.Puts.{IsCrowded}
 use Rattle.art_node.specs.Prefixes.{IsNodeOf}
 use Rattle.art_node.specs.Sizes.{larger}

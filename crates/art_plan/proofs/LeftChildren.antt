@@ -5,14 +5,15 @@ use Rattle.std.specs.Borrow.{Bor}
 use Rattle.std.specs.Prelude.{unwrap_or}
 use Rattle.art_cell.specs.Reads.{word_of, word_read}
 use Rattle.art_cell.specs.Words.{count_of, places}
-use Rattle.art_cell.specs.declared.bodies.Body.{Body}
+use Rattle.art_cell.specs.declared.cells.Body.{Body}
 use Rattle.art_cell.specs.declared.cells.Cell.{Cell}
 use Rattle.art_cell.specs.declared.cells.Cell.TheVariants as cell
 use Rattle.art_cell.specs.declared.cells.Node.{Node}
-use Rattle.art_cell.specs.declared.layouts.Layout.{Layout}
-use Rattle.art_cell.specs.declared.layouts.Layout.TheVariants.{Node4, Node16, Node48, Node256}
+use Rattle.art_cell.specs.declared.cells.Layout.{Layout}
+use Rattle.art_cell.specs.declared.cells.Layout.TheVariants.{Node4, Node16, Node48, Node256}
+use Rattle.art_plan.proofs.WordsWithin.{past_prefix}
 use Rattle.art_plan.specs.ChooseRemove.Losses.{few_of, loss_at, loss_in, loss_of}
-use Rattle.art_plan.specs.declared.choose_remove.losses.Loss.TheVariants.{Leaf, Merges, Shrinks}
+use Rattle.art_plan.specs.declared.choose_remove.Loss.TheVariants.{Leaf, Merges, Shrinks}
 use Rattle.art_plan.specs.ChooseInsert.Bodies.{IsFilled, site_by, site_in}
 use Rattle.art_node.specs.Sizes.{smaller}
 use Rattle.art_plan.specs.ArtFind.ReadSets.{node_of}
@@ -62,7 +63,7 @@ module _ (t : Position) (read_set : ReadSet) where
   -- what the header says of the node's body
   pub loss_on : (n : Node) → t.stamp.cell ≡ cell.Node n → (body : Body) → IsFilled t.stamp.cell (node_of read_set) body → loss_at t read_set ≡ loss_in n.layout (count_of (word_of body))
   loss_on n on body filled =
-      ap (λ (header : ℕ). loss_of t.stamp.cell header) (sym ((filled n on).words 1))
+      ap (λ (header : ℕ). loss_of t.stamp.cell header) (sym ((filled n on).words 1 (omega (arith, past_prefix n.layout))))
       ∙ ap (λ (c : Cell). loss_of c (word_of body 1)) on
 
   pub keeps_two : (body : Bor Body) (byte : ℕ) → IsFilled t.stamp.cell (node_of read_set) body.now → loss_at t read_set ≢ Merges → KeepsTwo (site_in t.stamp body byte)

@@ -6,6 +6,7 @@ mod BesideWords
 mod BodyForms
 pub mod ChildPlaces
 mod ChildSites
+mod CutWords
 mod EmptyTrees
 pub mod FewChildren
 mod ForkNodes
@@ -46,4 +47,4 @@ mod ShrunkNodes
 pub mod SiteWords
 mod SmallerNodes
 pub mod WholeCells
-mod WordsWithin
+pub mod WordsWithin

@@ -6,14 +6,14 @@ use Rattle.art_cell.specs.Children.{child_word}
 use Rattle.art_cell.specs.Leaves.{prefix_read}
 use Rattle.art_cell.specs.Reads.{word_of}
 use Rattle.art_cell.specs.Words.{child_of}
-use Rattle.art_cell.specs.declared.bodies.Body.{Body}
+use Rattle.art_cell.specs.declared.cells.Body.{Body}
 use Rattle.art_cell.specs.declared.cells.Cell.TheVariants as cell
 use Rattle.art_cell.specs.declared.cells.Link.TheVariants.{Leaf as leaf, Node as node}
 use Rattle.art_cell.specs.declared.cells.Node.{Node}
 use Rattle.art_plan.proofs.FoundLeaves.{found_below, found_leaf, found_stands, found_whole}
 use Rattle.art_plan.specs.ChooseRemove.Plans.{ArePartsOf, HasFound, HasOther}
 use Rattle.art_plan.specs.ChooseRemove.Seen.{AreSeen, IsLowerSeen, IsSeen, StillKnown}
-use Rattle.art_plan.specs.declared.choose_remove.lowers.Lower.{Lower}
+use Rattle.art_plan.specs.declared.choose_remove.Lower.{Lower}
 use Rattle.art_plan.proofs.ChildSites.{stamp_in}
 use Rattle.art_plan.proofs.PrefixBytes.{prefix_seen}
 use Rattle.art_plan.proofs.SeenBodies.{seen_body, seen_child}
@@ -28,11 +28,11 @@ use Rattle.art_plan.specs.ArtFind.declared.findings.Above.{Above}
 use Rattle.art_plan.specs.ArtFind.declared.findings.Position.{Position}
 use Rattle.art_plan.proofs.SiteWords.{children_read, not_own_child}
 use Rattle.art_plan.specs.Seen.{site_stamp}
-use Rattle.art_plan.specs.declared.sites.Site.{Site}
+use Rattle.art_plan.specs.declared.changes.Site.{Site}
 use Rattle.art_plan.proofs.GoneNodes.{fits_there}
 use Rattle.art_plan.specs.Remove.Cases.{IsMergeNode}
 use Rattle.art_plan.specs.Remove.Removals.{HasPair}
-use Rattle.art_plan.specs.declared.remove.leaves.OldLeaf.{OldLeaf}
+use Rattle.art_plan.specs.declared.remove.OldLeaf.{OldLeaf}
 use Rattle.art_step.specs.Views.{size_of}
 use Rattle.art_step.specs.declared.views.Sizes.{Sizes}
 use Rattle.art_step.specs.declared.views.Stamp.{Stamp}
@@ -110,6 +110,6 @@ module _ (t : Position) (read_set : ReadSet) (old : OldLeaf) (a : Above) (at : t
         read = read_whole z u lower.stamp reads (lower_whole z u lower reads still known) lower.node on-low low.now low-filled;
         third = third apart;
         other = lower_apart z t read_set old is seen.node n on body.now filled lower.byte lower.node pair;
-        front = sym (are.front (word_of body.now) (filled_agrees n (node_of read_set) body.now (filled n on)));
-        rest = sym (are.rest (word_of low.now) (filled_agrees lower.node reads low.now (low-filled lower.node on-low)));
+        front = sym (are.front (word_of body.now) (filled_agrees z u t.stamp (node_of read_set) standing.place.kept n on body.now (filled n on)));
+        rest = sym (are.rest (word_of low.now) (filled_agrees z u lower.stamp reads still.kept lower.node on-low low.now (low-filled lower.node on-low)));
       }

@@ -1,10 +1,10 @@
 -- What the functions that fill in a change make of it, one after another.
 use Rattle.std.proofs.Common.{ℕ, ◌+◌, ◌≤◌, Bool, List, [], ◌∷◌, ◌++◌, length, Some}
-use Rattle.art_cell.specs.declared.writes.Write.{Write}
+use Rattle.art_cell.specs.declared.cells.Write.{Write}
 use Rattle.art_plan.specs.Puts.{IsFree, IsTaken, puts_of}
 use Rattle.art_plan.specs.declared.changes.Change.{Change}
-use Rattle.art_plan.specs.declared.sites.Site.{Site}
-use Rattle.art_plan.specs.declared.sites.Site.TheVariants.{Root, Slot}
+use Rattle.art_plan.specs.declared.changes.Site.{Site}
+use Rattle.art_plan.specs.declared.changes.Site.TheVariants.{Root, Slot}
 use Rattle.art_step.specs.declared.views.Stamp.{Stamp}
 use Rattle.art_plan.proofs.SiteWords.{HasMeaning}
 

@@ -8,7 +8,7 @@ use Rattle.art_cell.specs.Bodies.{IsBody}
 use Rattle.art_cell.specs.Words.{Words, packed, prefix_len, prefix_of}
 use Rattle.art_cell.specs.declared.cells.Cell.TheVariants as cell
 use Rattle.art_cell.specs.declared.cells.Node.{Node}
-use Rattle.art_cell.specs.declared.layouts.Layout.{Layout}
+use Rattle.art_cell.specs.declared.cells.Layout.{Layout}
 use Rattle.art_commit.specs.CommitLaws.{Before, ClaimedAmong, HasLeaf}
 use Rattle.art_node.specs.Prefixes.{IsNodeOf}
 use Rattle.art_plan.specs.Changes.{IsReady, node_made}
@@ -17,6 +17,7 @@ use Rattle.art_step.specs.declared.views.Sizes.{Sizes}
 use Rattle.art_step.specs.declared.views.View.{View}
 use Rattle.art_tree.specs.Heaps.{Cells, node_prefix}
 use Rattle.art_tree.specs.WordChanges.{WritesNode}
+use Rattle.art_plan.proofs.CutWords.{cut_body, cut_prefix, cut_words}
 use Rattle.art_plan.proofs.ReadyCells.{claims_made, made_outside, made_words}
 use Rattle.art_plan.proofs.WordsWithin.{node_within}
 
@@ -51,3 +52,11 @@ module _ (z : Sizes) (u v : View) (c : Change) (ready : IsReady u c v) (m : Node
 
 pub node_prefix_is : (k : Layout) (w : Words) → IsBody k w → node_prefix w ≡ prefix_of w
 node_prefix_is k w body = ap (λ t. cond t [] (prefix_of w)) (le-ltb 64 (prefix_len w) body.prefix.short)
+
+-- that of the words of a layout alone
+pub cut_node_prefix : (k : Layout) (w : Words) → IsBody k w → node_prefix (cut_words k w) ≡ prefix_of w
+cut_node_prefix k w body = let cut = cut_body k w body in node_prefix_is k (cut_words k w) cut ∙ sym (cut_prefix k w cut)
+
+-- a node that is written with a prefix and children is so with the same ones
+pub writes_same : (k : Layout) (w : Words) (p q : List ℕ) (f g : ℕ → Option ℕ) → WritesNode k w p f → p ≡ q → ((b : ℕ) → b < 256 → f b ≡ g b) → WritesNode k w q g
+writes_same k w p q f g is prefix children = record { body = is.body; prefix = is.prefix ∙ prefix; children = λ b low. is.children b low ∙ children b low }

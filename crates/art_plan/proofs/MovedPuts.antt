@@ -159,11 +159,15 @@ word_after Q t i (p ∷ ps) ws each was = word_after Q t i ps (cond (eqb p.targe
         (λ (other : p.target ≢ t). subst (λ (b : Bool). Q (words_in (cond b (set ws p.place p.value) ws) i)) (sym (ne_eqb p.target t other)) was)
         (cases_eq p.target t)
 
--- puts whose places are within two lists that have the same words make the same words of both
-pub same_after : (t : ℕ) (ps : List Put) (ws us : List ℕ) → words_in ws ≡ words_in us → ((p : Put) → Member p ps → p.target ≡ t → (p.place < length ws) × (p.place < length us))
-    → words_in (with_puts t ps ws) ≡ words_in (with_puts t ps us)
-same_after t [] ws us same within = same
-same_after t (p ∷ ps) ws us same within = same_after t ps (cond (eqb p.target t) (set ws p.place p.value) ws) (cond (eqb p.target t) (set us p.place p.value) us) now later
+-- the same words stand at the first places of two lists, so many
+abbrev pub SameFirst : ℕ → List ℕ → List ℕ → Type 0
+SameFirst m ws us = (i : ℕ) → i < m → words_in ws i ≡ words_in us i
+
+-- puts whose places are within both lists leave it so
+pub same_after : (m t : ℕ) (ps : List Put) (ws us : List ℕ) → SameFirst m ws us → ((p : Put) → Member p ps → p.target ≡ t → (p.place < length ws) × (p.place < length us))
+    → SameFirst m (with_puts t ps ws) (with_puts t ps us)
+same_after m t [] ws us same within = same
+same_after m t (p ∷ ps) ws us same within = same_after m t ps (cond (eqb p.target t) (set ws p.place p.value) ws) (cond (eqb p.target t) (set us p.place p.value) us) now later
   where
     later : (q : Put) → Member q ps → q.target ≡ t → (q.place < length (cond (eqb p.target t) (set ws p.place p.value) ws)) × (q.place < length (cond (eqb p.target t) (set us p.place p.value) us))
     later q i is =
@@ -174,18 +178,18 @@ same_after t (p ∷ ps) ws us same within = same_after t ps (cond (eqb p.target 
         long true xs = length-set xs p.place p.value
         long false xs = refl
 
-    each : (low : (p.place < length ws) × (p.place < length us)) (i : ℕ) → get_or (set ws p.place p.value) i 0 ≡ get_or (set us p.place p.value) i 0
-    each low i = ⊎_elim
+    each : (low : (p.place < length ws) × (p.place < length us)) → SameFirst m (set ws p.place p.value) (set us p.place p.value)
+    each low i before = ⊎_elim
         (λ (e : i ≡ p.place). ap (λ (j : ℕ). get_or (set ws p.place p.value) j 0) e ∙ (get_or-set_same ws p.place p.value 0 low.0 ∙ (sym (get_or-set_same us p.place p.value 0 low.1) ∙ ap (λ (j : ℕ). get_or (set us p.place p.value) j 0) (sym e))))
-        (λ (f : i ≢ p.place). get_or-set_other ws p.place i p.value 0 f ∙ (ap (λ (w : ℕ → ℕ). w i) same ∙ sym (get_or-set_other us p.place i p.value 0 f)))
+        (λ (f : i ≢ p.place). get_or-set_other ws p.place i p.value 0 f ∙ (same i before ∙ sym (get_or-set_other us p.place i p.value 0 f)))
         (cases_eq i p.place)
 
-    now : words_in (cond (eqb p.target t) (set ws p.place p.value) ws) ≡ words_in (cond (eqb p.target t) (set us p.place p.value) us)
+    now : SameFirst m (cond (eqb p.target t) (set ws p.place p.value) ws) (cond (eqb p.target t) (set us p.place p.value) us)
     now = ⊎_elim
         (λ (is : p.target ≡ t).
         let low = within p (inl refl) is in
-        subst (λ (b : Bool). words_in (cond b (set ws p.place p.value) ws) ≡ words_in (cond b (set us p.place p.value) us)) (sym (eq-eqb p.target t is)) (λ j i. each low i j))
-        (λ (other : p.target ≢ t). subst (λ (b : Bool). words_in (cond b (set ws p.place p.value) ws) ≡ words_in (cond b (set us p.place p.value) us)) (sym (ne_eqb p.target t other)) same)
+        subst (λ (b : Bool). SameFirst m (cond b (set ws p.place p.value) ws) (cond b (set us p.place p.value) us)) (sym (eq-eqb p.target t is)) (each low))
+        (λ (other : p.target ≢ t). subst (λ (b : Bool). SameFirst m (cond b (set ws p.place p.value) ws) (cond b (set us p.place p.value) us)) (sym (ne_eqb p.target t other)) same)
         (cases_eq p.target t)
 
 -- ---- lists

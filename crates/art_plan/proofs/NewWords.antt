@@ -5,16 +5,16 @@ use Rattle.std.specs.List.{cons_option, filter_map, range_with_len, slice_get}
 use Rattle.art_cell.specs.Children.{child_word}
 use Rattle.art_cell.specs.Reads.{change_at, changes, word_of, word_read, written}
 use Rattle.art_cell.specs.Words.{Words, size}
-use Rattle.art_cell.specs.declared.bodies.Body.{Body}
+use Rattle.art_cell.specs.declared.cells.Body.{Body}
 use Rattle.art_cell.specs.declared.cells.Cell.{Cell}
 use Rattle.art_cell.specs.declared.cells.Cell.TheVariants as cell
 use Rattle.art_cell.specs.declared.cells.Link.{Link}
 use Rattle.art_cell.specs.declared.cells.Node.{Node}
-use Rattle.art_cell.specs.declared.layouts.Layout.{Layout}
-use Rattle.art_cell.specs.declared.writes.Write.{Write}
+use Rattle.art_cell.specs.declared.cells.Layout.{Layout}
+use Rattle.art_cell.specs.declared.cells.Write.{Write}
 use Rattle.art_find.specs.Rereadings.{AreKnown}
 use Rattle.art_plan.proofs.PutWords.{put_is}
-use Rattle.art_plan.proofs.WholeCells.{filled_agrees}
+use Rattle.std.specs.Prelude.{unwrap_or}
 use Rattle.art_plan.specs.Changes.{target_at}
 use Rattle.art_plan.specs.ChooseInsert.Bodies.{HasWords, IsFilled, site_by, site_in}
 use Rattle.art_plan.specs.NewWords.{EachOnce, PutsChanges, PutsChild, PutsNone, PutsPrefix, TakesAnother}
@@ -22,8 +22,8 @@ use Rattle.art_plan.specs.Puts.{IsDropPlan, IsSitePlan, put_of, puts_of}
 use Rattle.art_plan.specs.declared.changes.Change.{Change}
 use Rattle.art_plan.specs.declared.changes.Put.{Put}
 use Rattle.art_plan.specs.declared.changes.Target.{Target}
-use Rattle.art_plan.specs.declared.sites.Site.{Site}
-use Rattle.art_plan.specs.declared.sites.Site.TheVariants.{Root, Slot}
+use Rattle.art_plan.specs.declared.changes.Site.{Site}
+use Rattle.art_plan.specs.declared.changes.Site.TheVariants.{Root, Slot}
 use Rattle.art_step.proofs.SetsView.{member_append}
 use Rattle.art_step.specs.Views.{Member, size_of}
 use Rattle.art_step.specs.WordPlaces.{HasVersion}
@@ -102,9 +102,10 @@ module _ (reads : List (Option ℕ)) (n : Node) (body : Body) (has : HasWords n 
       let x = put_is i writes p m in
       let differs = differs_in (word_of body) after 1 (size body.layout - 1) x.0 (subst (Member x.0) exact x.1) in
       let high : x.0.place < size body.layout = omega (arith, differs.0, differs.1) in
-      let one = known x.0.place differs.0 (subst (λ (k : Layout). x.0.place < size k) has.layout high) in
-      subst (TakesAnother reads) (sym x.2)
-      (one.0, one.1, λ same. differs.2 (sym same ∙ sym (filled_agrees n reads body has x.0.place one.0 one.1)))
+      let inside = subst (λ (k : Layout). x.0.place < size k) has.layout high in
+      let one = known x.0.place differs.0 inside in
+      let is : word_of body x.0.place ≡ one.0 = has.words x.0.place inside ∙ ap (λ (o : Option ℕ). unwrap_or o 0) one.1 in
+      subst (TakesAnother reads) (sym x.2) (one.0, one.1, λ same. differs.2 (sym same ∙ sym is))
 
 -- ---- a site
 

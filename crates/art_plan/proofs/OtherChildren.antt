@@ -5,13 +5,13 @@ use Rattle.std.specs.Borrow.{Bor}
 use Rattle.art_cell.specs.Children.{child_word, link_of}
 use Rattle.art_cell.specs.Reads.{word_of}
 use Rattle.art_cell.specs.Words.{Words, child_of, count_of}
-use Rattle.art_cell.specs.declared.bodies.Body.{Body}
+use Rattle.art_cell.specs.declared.cells.Body.{Body}
 use Rattle.art_cell.specs.declared.cells.Cell.{Cell}
 use Rattle.art_cell.specs.declared.cells.Cell.TheVariants as cell
 use Rattle.art_cell.specs.declared.cells.Link.{Link}
 use Rattle.art_cell.specs.declared.cells.Link.TheVariants.{Leaf as leaf, Node as node}
 use Rattle.art_cell.specs.declared.cells.Node.{Node}
-use Rattle.art_cell.specs.declared.layouts.Layout.{Layout}
+use Rattle.art_cell.specs.declared.cells.Layout.{Layout}
 use Rattle.art_cell.specs.declared.node_kinds.Entry.{Entry}
 use Rattle.art_plan.proofs.FoundLeaves.{found_at, found_below, found_leaf, found_low, found_meaning, found_whole}
 use Rattle.art_plan.proofs.LeftChildren.{goes_two}
@@ -20,7 +20,7 @@ use Rattle.art_plan.specs.ChooseRemove.Losses.{loss_at}
 use Rattle.art_plan.specs.ChooseRemove.Others.{IsBeside, IsReadOf}
 use Rattle.art_plan.specs.ChooseRemove.Plans.{HasFound, HasOther}
 use Rattle.art_plan.specs.ChooseRemove.Seen.{AreSeen, IsSeen}
-use Rattle.art_plan.specs.declared.choose_remove.losses.Loss.TheVariants.{Merges}
+use Rattle.art_plan.specs.declared.choose_remove.Loss.TheVariants.{Merges}
 use Rattle.art_plan.proofs.SeenBodies.{low_byte, seen_child, word_named}
 use Rattle.art_plan.specs.ChooseInsert.Bodies.{HasWords, IsFilled, site_in}
 use Rattle.art_plan.specs.ArtFind.ReadSets.{above_of, node_of}
@@ -29,10 +29,10 @@ use Rattle.art_plan.specs.ArtFind.Rereadings.{AreKnown}
 use Rattle.art_plan.specs.ArtFind.declared.read_sets.ReadSet.{ReadSet}
 use Rattle.art_plan.specs.ArtFind.declared.findings.Above.{Above}
 use Rattle.art_plan.specs.ArtFind.declared.findings.Position.{Position}
-use Rattle.art_plan.specs.declared.sites.Site.{Site}
+use Rattle.art_plan.specs.declared.changes.Site.{Site}
 use Rattle.art_plan.specs.Remove.Cases.{IsMergeLeaf}
 use Rattle.art_plan.specs.Remove.Removals.{HasPair}
-use Rattle.art_plan.specs.declared.remove.leaves.OldLeaf.{OldLeaf}
+use Rattle.art_plan.specs.declared.remove.OldLeaf.{OldLeaf}
 use Rattle.art_step.specs.Knowledge.{CellAt}
 use Rattle.art_step.specs.Views.{note_of, size_of}
 use Rattle.art_step.specs.declared.views.Fact.TheVariants.{Starts, Word}

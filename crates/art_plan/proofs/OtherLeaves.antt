@@ -2,26 +2,26 @@
 use Rattle.std.proofs.Common.{◌≡◌, ◌≢◌, ℕ, ◌+◌, ◌-◌, ◌<◌, ◌≤◌, List, [], ◌∷◌, ◌++◌, length, get_or, take, sym, ap, subst, arith}
 use Rattle.std.specs.Borrow.{Bor}
 use Rattle.art_cell.specs.Children.{child_word}
-use Rattle.art_cell.specs.declared.bodies.Body.{Body}
+use Rattle.art_cell.specs.declared.cells.Body.{Body}
 use Rattle.art_cell.specs.declared.cells.Link.{Link}
 use Rattle.art_cell.specs.declared.cells.Cell.TheVariants as cell
 use Rattle.art_cell.specs.declared.cells.Link.TheVariants.{Leaf as leaf}
 use Rattle.art_cell.specs.declared.cells.Node.{Node}
-use Rattle.art_cell.specs.declared.layouts.Layout.TheVariants.{Node4}
+use Rattle.art_cell.specs.declared.cells.Layout.TheVariants.{Node4}
 use Rattle.art_plan.specs.ChooseInsert.Bodies.{IsFilled, site_in}
 use Rattle.art_plan.specs.ChooseInsert.Needs.{needs_of}
 use Rattle.art_plan.specs.ChooseInsert.Plans.{HasNeeded}
 use Rattle.art_plan.specs.ChooseInsert.Seen.{IsSeen}
 use Rattle.art_find.specs.Verdicts.{IsLeafMismatch, Says}
-use Rattle.art_find.specs.declared.verdicts.Verdict.{Verdict}
-use Rattle.art_find.specs.declared.verdicts.Verdict.TheVariants.{LeafMismatch}
+use Rattle.art_find.specs.declared.descents.Verdict.{Verdict}
+use Rattle.art_find.specs.declared.descents.Verdict.TheVariants.{LeafMismatch}
 use Rattle.art_plan.proofs.MadeNodes.{key_small}
 use Rattle.art_plan.proofs.NewWords.{IsOtherRoot, IsSiteOf, site_of}
 use Rattle.art_plan.proofs.RootWords.{root_other}
-use Rattle.art_plan.specs.declared.sites.Site.{Site}
+use Rattle.art_plan.specs.declared.changes.Site.{Site}
 use Rattle.art_plan.specs.Insert.Cases.{IsForkLeaf, IsInHand}
 use Rattle.art_plan.specs.Puts.{IsTaken}
-use Rattle.art_plan.specs.declared.insert.leaves.NewLeaf.{NewLeaf}
+use Rattle.art_plan.specs.declared.insert.NewLeaf.{NewLeaf}
 use Rattle.art_find.specs.ReadSets.{node_of}
 use Rattle.art_find.specs.Findings.{IsStanding}
 use Rattle.art_find.specs.declared.read_sets.ReadSet.{ReadSet}

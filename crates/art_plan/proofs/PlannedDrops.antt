@@ -1,15 +1,15 @@
 -- A leaf that goes from its place is planned.
-use Rattle.std.proofs.Common.{◌≡◌, ℕ, ◌≤◌, List, [], ◌∷◌, map, take, Some, None, refl, sym, ap, ◌∙◌, subst, subst₂, inl, ⊎_elim}
+use Rattle.std.proofs.Common.{◌≡◌, ℕ, ◌≤◌, List, [], ◌∷◌, map, take, Some, None, refl, sym, ap, ◌∙◌, subst, subst₂, inl, ⊎_elim, arith}
 use Rattle.art_cell.specs.Children.{child_word}
 use Rattle.art_cell.specs.Reads.{word_of}
 use Rattle.art_cell.specs.Words.{Words, count_of}
-use Rattle.art_cell.specs.declared.bodies.Body.{Body}
+use Rattle.art_cell.specs.declared.cells.Body.{Body}
 use Rattle.art_cell.specs.declared.cells.Cell.{Cell}
 use Rattle.art_cell.specs.declared.cells.Cell.TheVariants as cell
 use Rattle.art_cell.specs.declared.cells.Link.{Link}
 use Rattle.art_cell.specs.declared.cells.Link.TheVariants.{Leaf as leaf, Node as node}
 use Rattle.art_cell.specs.declared.cells.Node.{Node}
-use Rattle.art_cell.specs.declared.writes.Write.{Write}
+use Rattle.art_cell.specs.declared.cells.Write.{Write}
 use Rattle.art_commit.proofs.ChangeLeaves.{drop_commits}
 use Rattle.art_commit.proofs.Members.{same_commits}
 use Rattle.art_commit.specs.CommitLaws.{Before}
@@ -18,11 +18,11 @@ use Rattle.art_plan.specs.Changes.{IsPlanned, IsReady, leaf_linked}
 use Rattle.art_plan.specs.Puts.{IsDropPlan, IsTaken, change_of, puts_of}
 use Rattle.art_plan.specs.Seen.{SiteFits, kept, site_stamp}
 use Rattle.art_plan.specs.declared.changes.Change.{Change}
-use Rattle.art_plan.specs.declared.sites.Site.{Site}
-use Rattle.art_plan.specs.declared.sites.Site.TheVariants.{Root, Slot}
+use Rattle.art_plan.specs.declared.changes.Site.{Site}
+use Rattle.art_plan.specs.declared.changes.Site.TheVariants.{Root, Slot}
 use Rattle.art_plan.specs.Remove.Cases.{HasRow, IsDrop}
 use Rattle.art_plan.specs.Remove.Removals.{KeepsTwo, removed}
-use Rattle.art_plan.specs.declared.remove.leaves.OldLeaf.{OldLeaf}
+use Rattle.art_plan.specs.declared.remove.OldLeaf.{OldLeaf}
 use Rattle.art_step.specs.Deeds.{key_of}
 use Rattle.art_step.specs.Steps.Commit as commit
 use Rattle.art_step.specs.Tokens.{links_of}
@@ -35,6 +35,7 @@ use Rattle.art_tree.specs.Heaps.{Cells, heap_of}
 use Rattle.art_tree.specs.Tree.{HasTwo}
 use Rattle.art_tree.specs.Tree as tree
 use Rattle.art_tree.specs.WordChanges.{WritesPlace, cell_of}
+use Rattle.art_plan.proofs.CutWords.{cut_count, cut_words}
 use Rattle.art_plan.proofs.MadeChanges.{taken_meaning}
 use Rattle.art_plan.proofs.Planning.{none_come, one_of_one, one_planned, one_unlinked}
 use Rattle.art_plan.proofs.ReadyCells.{claims_made, holds_just, so_held, IsMadeCell, IsTargetCell}
@@ -65,13 +66,13 @@ module _ (z : Sizes) (u : View) (old : OldLeaf) (depth : ℕ) (body : Body) (wri
     two_left (Slot x at byte) ready fits plan taken two n b' e =
         let w = written (Slot x at byte) ready fits plan in
         let is : cell.Node fits.node ≡ cell.Node n = sym (ap cell_of (sym e) ∙ w.cell_is ∙ fits.read.cell) in
-        let words : s (cell.Node n) ≡ word_of at.now =
-        subst (λ (d : Cell). s d ≡ word_of at.now) is (whole_before z u v (c (Slot x at byte)) ready s s' b 0 (kept x) refl writes (λ ws. refl) fits.node at.now fits.read) in
+        let words : s (cell.Node n) ≡ cut_words at.now.layout (word_of at.now) =
+        subst (λ (d : Cell). s d ≡ cut_words at.now.layout (word_of at.now)) is (whole_before z u v (c (Slot x at byte)) ready s s' b 0 (kept x) refl writes (λ ws. refl) fits.node at.now fits.read) in
         let put : WritesPlace s s' (tree.Slot n b') None = subst (λ (y : tree.Place). WritesPlace s s' y None) e w.put in
         let there : tree.PlaceAt (heap_of s) (tree.Slot n b') (take depth k) = subst (λ (y : tree.Place). tree.PlaceAt (heap_of s) y (take depth k)) e w.at in
         let was : (heap_of s).child n b' ≡ Some (leaf l) = ap (tree.child_at_place (heap_of s)) (sym e) ∙ w.was in
         let word = has_word s n b' (leaf l) put.0 was in
-        two_kept s s' n n b' word.0 (b.shape.nodes n there.0 there.1) put.0 word.1 (subst (λ (ws : Words). 3 ≤ count_of ws) (sym words) two) put.1.children
+        two_kept s s' n n b' word.0 (b.shape.nodes n there.0 there.1) put.0 word.1 (subst (λ (ws : Words). 3 ≤ count_of ws) (sym words) (omega (arith, two, cut_count at.now.layout (word_of at.now)))) put.1.children
 
   module _ (site : Site) (knows : IsDrop z u site old depth) (plan : IsDropPlan site writes) (taken : IsTaken site) (two : KeepsTwo site) where
     drop_may : (v : View) → IsReady u (c site) v → commit.May z v (removed old) (leaf l ∷ []) (commit.coming v (leaf_linked (c site)))

@@ -4,26 +4,26 @@ use Rattle.std.proofs.Math.Seq.{take-add}
 use Rattle.art_cell.specs.Children.{child_word}
 use Rattle.art_cell.specs.Reads.{word_of}
 use Rattle.art_cell.specs.Words.{child_of}
-use Rattle.art_cell.specs.declared.bodies.Body.{Body}
+use Rattle.art_cell.specs.declared.cells.Body.{Body}
 use Rattle.art_cell.specs.declared.cells.Cell.TheVariants as cell
 use Rattle.art_cell.specs.declared.cells.Link.TheVariants.{Leaf as leaf, Node as node}
-use Rattle.art_cell.specs.declared.layouts.Layout.{Layout}
-use Rattle.art_cell.specs.declared.layouts.Layout.TheVariants.{Node4}
-use Rattle.art_cell.specs.declared.writes.Write.{Write}
+use Rattle.art_cell.specs.declared.cells.Layout.{Layout}
+use Rattle.art_cell.specs.declared.cells.Layout.TheVariants.{Node4}
+use Rattle.art_cell.specs.declared.cells.Write.{Write}
 use Rattle.art_commit.proofs.ChangeForks.{fork_commits}
 use Rattle.art_commit.proofs.Members.{same_commits}
 use Rattle.art_commit.specs.CommitLaws.{Before, IsItsNode}
 use Rattle.art_plan.specs.Insert.Cases.{IsForkLeaf}
 use Rattle.art_plan.specs.Insert.Puts.{inserted, node4}
 use Rattle.art_plan.specs.Puts.{IsSitePlan, change_of, puts_of}
-use Rattle.art_plan.specs.declared.insert.leaves.NewLeaf.{NewLeaf}
-use Rattle.art_plan.specs.declared.insert.leaves.Parting.{Parting}
+use Rattle.art_plan.specs.declared.insert.NewLeaf.{NewLeaf}
+use Rattle.art_plan.specs.declared.insert.Parting.{Parting}
 use Rattle.art_node.specs.Prefixes.{IsNodeOf, two_of}
 use Rattle.art_plan.specs.Changes.{IsPlanned, IsReady, leaf_linked, node_made}
 use Rattle.art_plan.specs.Seen.{kept, site_stamp}
 use Rattle.art_plan.specs.declared.changes.Change.{Change}
 use Rattle.art_plan.specs.declared.changes.Target.{Target}
-use Rattle.art_plan.specs.declared.sites.Site.{Site}
+use Rattle.art_plan.specs.declared.changes.Site.{Site}
 use Rattle.art_step.specs.Steps.Commit as commit
 use Rattle.art_step.specs.declared.views.Sizes.{Sizes}
 use Rattle.art_step.specs.declared.views.View.{View}

@@ -1,31 +1,31 @@
 -- A leaf that comes with a larger node, which takes the place of a full one, is planned.
-use Rattle.std.proofs.Common.{◌≡◌, ◌⊎◌, ℕ, ◌<◌, ◌≤◌, List, [], ◌∷◌, ◌++◌, map, take, Option, Some, None, refl, sym, ap, ap₂, ◌∙◌, subst, inl, inr, ⊎_elim, arith}
+use Rattle.std.proofs.Common.{◌≡◌, ◌⊎◌, ℕ, ◌<◌, ◌≤◌, List, [], ◌∷◌, ◌++◌, map, take, cond, eqb, Option, Some, None, refl, sym, ap, ap₂, ◌∙◌, subst, inl, inr, ⊎_elim, arith}
 use Rattle.art_cell.specs.Children.{child_word}
 use Rattle.art_cell.specs.Reads.{with_child, word_of}
 use Rattle.art_cell.specs.Words.{Words, child_of, prefix_len, prefix_of}
-use Rattle.art_cell.specs.declared.bodies.Body.{Body}
+use Rattle.art_cell.specs.declared.cells.Body.{Body}
 use Rattle.art_cell.specs.declared.cells.Cell.{Cell}
 use Rattle.art_cell.specs.declared.cells.Cell.TheVariants as cell
 use Rattle.art_cell.specs.declared.cells.Link.{Link}
 use Rattle.art_cell.specs.declared.cells.Link.TheVariants.{Leaf as leaf, Node as node}
 use Rattle.art_cell.specs.declared.cells.Node.{Node}
-use Rattle.art_cell.specs.declared.layouts.Layout.{Layout}
-use Rattle.art_cell.specs.declared.writes.Write.{Write}
+use Rattle.art_cell.specs.declared.cells.Layout.{Layout}
+use Rattle.art_cell.specs.declared.cells.Write.{Write}
 use Rattle.art_commit.proofs.ChangeWays.{grow_commits}
 use Rattle.art_commit.proofs.Members.{same_commits}
 use Rattle.art_commit.specs.CommitLaws.{Before}
 use Rattle.art_plan.specs.Insert.Cases.{IsGrow}
 use Rattle.art_plan.specs.Insert.Puts.{inserted, larger_node}
 use Rattle.art_plan.specs.Puts.{IsCrowded, IsSitePlan, change_of, puts_of}
-use Rattle.art_plan.specs.declared.parts.Below.{Below}
-use Rattle.art_plan.specs.declared.insert.leaves.NewLeaf.{NewLeaf}
+use Rattle.art_plan.specs.declared.changes.Below.{Below}
+use Rattle.art_plan.specs.declared.insert.NewLeaf.{NewLeaf}
 use Rattle.art_node.specs.Prefixes.{IsNodeOf}
 use Rattle.art_node.specs.Sizes.{larger}
 use Rattle.art_plan.specs.Changes.{IsPlanned, IsReady, leaf_linked, node_made}
 use Rattle.art_plan.specs.Seen.{gone, kept, site_stamp}
 use Rattle.art_plan.specs.declared.changes.Change.{Change}
 use Rattle.art_plan.specs.declared.changes.Target.{Target}
-use Rattle.art_plan.specs.declared.sites.Site.{Site}
+use Rattle.art_plan.specs.declared.changes.Site.{Site}
 use Rattle.art_step.proofs.Shows.{child_on}
 use Rattle.art_step.specs.Steps.Commit as commit
 use Rattle.art_step.specs.Tokens.{links_of}
@@ -38,7 +38,9 @@ use Rattle.art_tree.specs.Tree.{Begins, child_at_place}
 use Rattle.art_tree.specs.Tree as tree
 use Rattle.art_tree.specs.WordChanges.{WritesNode, cell_of}
 use Rattle.art_plan.proofs.ChildPlaces.{NameThere, same_there, with_child_there}
-use Rattle.art_plan.proofs.MadeNodes.{claims_one, made_written, node_prefix_is}
+use Rattle.art_plan.proofs.MadeNodes.{claims_one, cut_node_prefix, made_written, writes_same}
+use Rattle.art_cell.specs.Bodies.{IsBody}
+use Rattle.art_plan.proofs.CutWords.{cut_body, cut_child, cut_prefix, cut_words}
 use Rattle.art_plan.proofs.Planning.{both_come, may_make, one_of_two, one_unlinked, two_planned}
 use Rattle.art_plan.proofs.PutWords.{with_puts-other}
 use Rattle.art_plan.proofs.ReadyCells.{IsMadeCell, IsTargetCell, holds_just, leaf_kept, locked, new_words, node_kept, old_words}
@@ -67,7 +69,7 @@ module _ (z : Sizes) (u : View) (site : Site) (new : NewLeaf) (depth : ℕ) (bel
 
     module _ (v : View) (ready : IsReady u c v) (s s' : Cells) (b : Before z v s s') where
       -- the words of the node that goes stay
-      n_before : s (cell.Node n) ≡ w
+      n_before : s (cell.Node n) ≡ cut_words below.body.now.layout w
       n_before = whole_before z u v c ready s s' b 1 (gone below.stamp) refl [] (λ ws. with_puts-other 1 0 writes ws (λ e. omega arith)) n below.body.now knows.there.read
 
       n_same : s' (cell.Node n) ≡ s (cell.Node n)
@@ -78,24 +80,31 @@ module _ (z : Sizes) (u : View) (site : Site) (new : NewLeaf) (depth : ℕ) (bel
 
       -- its prefix, and its children
       prefix_is : node_prefix (s (cell.Node n)) ≡ prefix_of w
-      prefix_is = ap node_prefix n_before ∙ node_prefix_is below.body.now.layout w crowded.meaning
+      prefix_is = ap node_prefix n_before ∙ cut_node_prefix below.body.now.layout w crowded.meaning
 
-      children_is : child_of n.layout (s (cell.Node n)) ≡ child_of below.body.now.layout w
-      children_is = ap₂ (λ (l : Layout) (ws : Words). child_of l ws) (sym knows.there.read.layout) n_before
+      same_node : IsBody below.body.now.layout (cut_words below.body.now.layout w)
+      same_node = cut_body below.body.now.layout w crowded.meaning
+
+      children_are : (e : ℕ) → e < 256 → child_of n.layout (s (cell.Node n)) e ≡ child_of below.body.now.layout w e
+      children_are e e-low =
+          ap₂ (λ (l : Layout) (ws : Words). child_of l ws e) (sym knows.there.read.layout) n_before
+          ∙ sym (cut_child below.body.now.layout w same_node e e-low)
 
       m_written : WritesNode m.layout (s' (cell.Node m)) (node_prefix (s (cell.Node n))) (with_child (child_of n.layout (s (cell.Node n))) byte (child_word (leaf new.number)))
       m_written =
-          subst (λ (p : List ℕ). WritesNode m.layout (s' (cell.Node m)) p (with_child (child_of n.layout (s (cell.Node n))) byte (child_word (leaf new.number)))) (sym prefix_is)
-          (subst (λ (f : ℕ → Option ℕ). WritesNode m.layout (s' (cell.Node m)) (prefix_of w) (with_child f byte (child_word (leaf new.number)))) (sym children_is)
-          (made_written z u v c ready m made s s' b (prefix_of w) _ grown))
+          writes_same m.layout (s' (cell.Node m)) (prefix_of w) (node_prefix (s (cell.Node n)))
+          (with_child (child_of below.body.now.layout w) byte (child_word (leaf new.number))) (with_child (child_of n.layout (s (cell.Node n))) byte (child_word (leaf new.number)))
+          (made_written z u v c ready m made s s' b (prefix_of w) _ grown) (sym prefix_is)
+          (λ e e-low. ap (λ (o : Option ℕ). cond (eqb e byte) (Some (child_word (leaf new.number))) o) (sym (children_are e e-low)))
 
       n_free : child_at_place (heap_of s) (tree.Slot n byte) ≡ None
-      n_free = child_on s n byte None low (ap (λ (f : ℕ → Option ℕ). f byte) children_is ∙ crowded.free)
+      n_free = child_on s n byte None low (children_are byte low ∙ crowded.free)
 
       way : Begins (take depth k ++ (heap_of s).prefix n ++ byte ∷ []) k
       way =
-          let short = subst (λ (ws : Words). prefix_len ws ≤ 64) (sym n_before) crowded.meaning.prefix.short in
-          subst (λ (p : List ℕ). Begins (take depth k ++ p ++ byte ∷ []) k) (sym ((words_mean s).prefix n short ∙ ap prefix_of n_before)) knows.way
+          let short = subst (λ (ws : Words). prefix_len ws ≤ 64) (sym n_before) same_node.prefix.short in
+          subst (λ (p : List ℕ). Begins (take depth k ++ p ++ byte ∷ []) k)
+          (sym ((words_mean s).prefix n short ∙ ap prefix_of n_before ∙ sym (cut_prefix below.body.now.layout w same_node))) knows.way
 
     grow_may : (v : View) → IsReady u c v → commit.May z v (inserted new) (node n ∷ []) (commit.coming v (leaf_linked c))
     grow_may v ready s s' shape known turns =

@@ -4,13 +4,12 @@ use Rattle.art_cell.specs.Bodies.{IsBody}
 use Rattle.art_cell.specs.Children.{child_word}
 use Rattle.art_cell.specs.Reads.{word_of, written}
 use Rattle.art_cell.specs.Words.{Words, child_of}
-use Rattle.art_cell.specs.declared.bodies.Body.{Body}
+use Rattle.art_cell.specs.declared.cells.Body.{Body}
 use Rattle.art_cell.specs.declared.cells.Cell.TheVariants as cell
 use Rattle.art_cell.specs.declared.cells.Link.{Link}
 use Rattle.art_cell.specs.declared.cells.Link.TheVariants.{Leaf as leaf, Node as node}
 use Rattle.art_cell.specs.declared.cells.Node.{Node}
-use Rattle.art_cell.specs.declared.layouts.Layout.{Layout}
-use Rattle.art_cell.specs.declared.writes.Write.{Write}
+use Rattle.art_cell.specs.declared.cells.Write.{Write}
 use Rattle.art_commit.proofs.ChangeMerges.{merge_commits}
 use Rattle.art_commit.proofs.Members.{same_commits}
 use Rattle.art_commit.specs.CommitLaws.{Before, IsItsNode}
@@ -18,23 +17,23 @@ use Rattle.art_model.specs.declared.commands.Answer.TheVariants.{Removed}
 use Rattle.art_node.specs.Prefixes.{IsPrefixPlan}
 use Rattle.art_path.specs.declared.prefixes.Parts.{Parts}
 use Rattle.art_plan.proofs.ChildPlaces.{same_there}
-use Rattle.art_plan.proofs.MadeNodes.{node_prefix_is}
+use Rattle.art_plan.proofs.MadeNodes.{cut_node_prefix}
 use Rattle.art_plan.proofs.Planning.{none_come, one_of_three, one_of_two, three_planned, two_planned}
 use Rattle.art_plan.proofs.PutWords.{with_puts-append, with_puts-other}
 use Rattle.art_plan.proofs.ReadyCells.{IsMadeCell, IsTargetCell, claims_made, holds_just, so_held}
-use Rattle.art_plan.proofs.SiteWords.{HasMeaning, IsWrittenAt, children_read, may_put_site, may_put_whole, may_target, may_target_site, put_plan, site_written, whole_after, whole_before}
+use Rattle.art_plan.proofs.SiteWords.{HasMeaning, IsWrittenAt, children_read, may_put_site, may_put_whole, may_target, may_target_site, node_written, put_plan, site_written, whole_after, whole_before}
 use Rattle.art_plan.specs.Changes.{IsPlanned, IsReady, MayPut, leaf_linked, with_puts}
 use Rattle.art_plan.specs.Puts.{IsSitePlan, change_of, puts_of}
 use Rattle.art_plan.specs.Seen.{gone, kept, site_stamp}
 use Rattle.art_plan.specs.declared.changes.Change.{Change}
 use Rattle.art_plan.specs.declared.changes.Put.{Put}
 use Rattle.art_plan.specs.declared.changes.Target.{Target}
-use Rattle.art_plan.specs.declared.parts.Below.{Below}
-use Rattle.art_plan.specs.declared.sites.Site.{Site}
+use Rattle.art_plan.specs.declared.changes.Below.{Below}
+use Rattle.art_plan.specs.declared.changes.Site.{Site}
 use Rattle.art_plan.proofs.GoneNodes.{both_once, both_same, both_unlinked, both_words, fits_there, gone_child, gone_no_third, gone_prefix, gone_same, node_goes, only_goes}
 use Rattle.art_plan.specs.Remove.Cases.{HasRow, IsMergeLeaf, IsMergeNode}
 use Rattle.art_plan.specs.Remove.Removals.{joined, removed}
-use Rattle.art_plan.specs.declared.remove.leaves.OldLeaf.{OldLeaf}
+use Rattle.art_plan.specs.declared.remove.OldLeaf.{OldLeaf}
 use Rattle.art_step.proofs.SetsView.{member_append}
 use Rattle.art_step.specs.Deeds.{key_of}
 use Rattle.art_step.specs.Steps.Commit as commit
@@ -88,8 +87,8 @@ module _ (z : Sizes) (u : View) (site : Site) (old : OldLeaf) (depth : ℕ) (bel
       (subst₂ (λ (key : List ℕ) (value : ℕ). commit.Commits z v (Done (Remove (key_of key)) (Removed value)) (node n ∷ leaf l ∷ []) [] s s') row.0 row.1
       (merge_commits z v s s' at.place (take depth k) (leaf other) n l beside byte b just (λ h o i free is. let e = claims_made z u v c ready h o i free is in absurd (cc))
       (gone_same z u v c ready s s' b below.stamp refl none_put n below.body.now knows.there.read) at.put tt at.at at.was
-      (gone_child z u v c ready s s' b below.stamp refl none_put n below.body.now knows.there.read beside (leaf other) knows.pair.low_beside (fits_there z (leaf other) there) knows.pair.another)
-      (gone_child z u v c ready s s' b below.stamp refl none_put n below.body.now knows.there.read byte (leaf l) knows.pair.low knows.old_leaf.fits knows.pair.one) knows.pair.apart
+      (gone_child z u v c ready s s' b below.stamp refl none_put n below.body.now knows.there.read knows.pair.meaning beside (leaf other) knows.pair.low_beside (fits_there z (leaf other) there) knows.pair.another)
+      (gone_child z u v c ready s s' b below.stamp refl none_put n below.body.now knows.there.read knows.pair.meaning byte (leaf l) knows.pair.low knows.old_leaf.fits knows.pair.one) knows.pair.apart
       (gone_no_third z u v c ready s s' b below.stamp refl none_put n below.body.now knows.there.read byte (child_word (leaf l)) beside (child_word (leaf other)) knows.pair)))
 
   leaf_unlinks : links_of (both_words l n) ≡ leaf l ∷ node n ∷ []
@@ -148,12 +147,11 @@ module _ (z : Sizes) (u : View) (site : Site) (old : OldLeaf) (depth : ℕ) (bel
         let was = whole_before z u v change ready s s' b 2 (kept lower.stamp) refl others third_puts o lower.body.now knows.read in
         let now = whole_after z u v change ready s s' b 2 (kept lower.stamp) refl others third_puts o lower.body.now knows.read gain.exact in
         let front = gone_prefix z u v change ready s s' b below.stamp refl second_puts upper below.body.now knows.there.read knows.pair.meaning ∙ knows.front in
-        let rest = ap node_prefix was ∙ node_prefix_is lower.body.now.layout w meaning ∙ knows.rest in
+        let rest = ap node_prefix was ∙ cut_node_prefix lower.body.now.layout w meaning ∙ knows.rest in
         let kept_node : WritesNode lower.body.now.layout (written w others) (joined parts) (child_of lower.body.now.layout w) = record { body = gain.node.body; prefix = gain.node.prefix; children = gain.node.children } in (
           joined parts,
           ap₂ (λ (p q : List ℕ). p ++ parts.byte ∷ q) (sym front) (sym rest),
-          subst (λ (ws : Words). WritesNode o.layout (s' (cell.Node o)) (joined parts) (child_of o.layout ws)) (sym was)
-              (subst (λ (ws : Words). WritesNode o.layout ws (joined parts) (child_of o.layout w)) (sym now) (subst (λ (i : Layout). WritesNode i (written w others) (joined parts) (child_of i w)) knows.read.layout kept_node)),
+          node_written s s' lower.body.now o others (joined parts) knows.read.layout meaning was now kept_node,
         )
 
   merge_node_may : (v : View) → IsReady u change v → commit.May z v (removed old) (leaf number ∷ node upper ∷ []) (commit.coming v (leaf_linked change))
@@ -180,8 +178,8 @@ module _ (z : Sizes) (u : View) (site : Site) (old : OldLeaf) (depth : ℕ) (bel
       (subst₂ (λ (bytes : List ℕ) (value : ℕ). commit.Commits z v (Done (Remove (key_of bytes)) (Removed value)) (node upper ∷ leaf number ∷ []) [] s s') row.0 row.1
       (merge_commits z v s s' at.place (take depth key) (node o) upper number parts.byte byte b just (λ h i m free is. let e = claims_made z u v change ready h i m free is in absurd (cc))
       (gone_same z u v change ready s s' b below.stamp refl second_puts upper below.body.now knows.there.read) at.put (o_gains v ready s s' b) at.at at.was
-      (gone_child z u v change ready s s' b below.stamp refl second_puts upper below.body.now knows.there.read parts.byte (node o) knows.pair.low_beside (fits_there z (node o) node_there) knows.pair.another)
-      (gone_child z u v change ready s s' b below.stamp refl second_puts upper below.body.now knows.there.read byte (leaf number) knows.pair.low knows.old_leaf.fits knows.pair.one) knows.pair.apart
+      (gone_child z u v change ready s s' b below.stamp refl second_puts upper below.body.now knows.there.read knows.pair.meaning parts.byte (node o) knows.pair.low_beside (fits_there z (node o) node_there) knows.pair.another)
+      (gone_child z u v change ready s s' b below.stamp refl second_puts upper below.body.now knows.there.read knows.pair.meaning byte (leaf number) knows.pair.low knows.old_leaf.fits knows.pair.one) knows.pair.apart
       (gone_no_third z u v change ready s s' b below.stamp refl second_puts upper below.body.now knows.there.read byte (child_word (leaf number)) parts.byte (child_word (node o)) knows.pair)))
 
   node_unlinks : links_of (both_words number upper) ≡ leaf number ∷ node upper ∷ []

@@ -5,29 +5,29 @@ use Rattle.art_cell.specs.Children.{child_word}
 use Rattle.art_cell.specs.Bodies.{IsBody}
 use Rattle.art_cell.specs.Reads.{word_of, written}
 use Rattle.art_cell.specs.Words.{Words, child_of}
-use Rattle.art_cell.specs.declared.bodies.Body.{Body}
+use Rattle.art_cell.specs.declared.cells.Body.{Body}
 use Rattle.art_cell.specs.declared.cells.Cell.TheVariants as cell
 use Rattle.art_cell.specs.declared.cells.Link.TheVariants.{Leaf as leaf, Node as node}
 use Rattle.art_cell.specs.declared.cells.Node.{Node}
-use Rattle.art_cell.specs.declared.layouts.Layout.{Layout}
-use Rattle.art_cell.specs.declared.layouts.Layout.TheVariants.{Node4}
-use Rattle.art_cell.specs.declared.writes.Write.{Write}
+use Rattle.art_cell.specs.declared.cells.Layout.{Layout}
+use Rattle.art_cell.specs.declared.cells.Layout.TheVariants.{Node4}
+use Rattle.art_cell.specs.declared.cells.Write.{Write}
 use Rattle.art_commit.proofs.ChangeForks.{fork_commits}
 use Rattle.art_commit.proofs.Members.{same_commits}
 use Rattle.art_commit.specs.CommitLaws.{Before, IsItsNode}
 use Rattle.art_plan.specs.Insert.Cases.{IsForkPrefix}
 use Rattle.art_plan.specs.Insert.Puts.{inserted, node4}
 use Rattle.art_plan.specs.Puts.{IsSitePlan, change_of, puts_of}
-use Rattle.art_plan.specs.declared.parts.Below.{Below}
-use Rattle.art_plan.specs.declared.insert.leaves.NewLeaf.{NewLeaf}
-use Rattle.art_plan.specs.declared.insert.leaves.Parting.{Parting}
+use Rattle.art_plan.specs.declared.changes.Below.{Below}
+use Rattle.art_plan.specs.declared.insert.NewLeaf.{NewLeaf}
+use Rattle.art_plan.specs.declared.insert.Parting.{Parting}
 use Rattle.art_node.specs.Prefixes.{IsNodeOf, IsPrefixPlan, two_of}
 use Rattle.art_plan.specs.Changes.{IsPlanned, IsReady, MayPut, leaf_linked, node_made, with_puts}
 use Rattle.art_plan.specs.Seen.{kept, site_stamp}
 use Rattle.art_plan.specs.declared.changes.Change.{Change}
 use Rattle.art_plan.specs.declared.changes.Put.{Put}
 use Rattle.art_plan.specs.declared.changes.Target.{Target}
-use Rattle.art_plan.specs.declared.sites.Site.{Site}
+use Rattle.art_plan.specs.declared.changes.Site.{Site}
 use Rattle.art_step.proofs.SetsView.{member_append}
 use Rattle.art_step.specs.Steps.Commit as commit
 use Rattle.art_step.specs.Views.{IsNumber, Member}
@@ -39,11 +39,11 @@ use Rattle.art_tree.specs.Tree.{Begins}
 use Rattle.art_tree.specs.WordChanges.{KeepsChildren, WritesNode, cell_of}
 use Rattle.art_plan.proofs.ForkNodes.{begins_at, two_there}
 use Rattle.art_plan.proofs.ChildPlaces.{NameThere, same_there}
-use Rattle.art_plan.proofs.MadeNodes.{claims_one, key_small, made_written, node_prefix_is, prefix_small}
+use Rattle.art_plan.proofs.MadeNodes.{claims_one, cut_node_prefix, key_small, made_written, prefix_small}
 use Rattle.art_plan.proofs.Planning.{both_come, may_make, one_of_two, two_planned}
 use Rattle.art_plan.proofs.PutWords.{with_puts-append, with_puts-other}
 use Rattle.art_plan.proofs.ReadyCells.{IsMadeCell, IsTargetCell, holds_just, leaf_kept, node_kept}
-use Rattle.art_plan.proofs.SiteWords.{HasMeaning, IsWrittenAt, children_read, may_put_site, may_put_whole, may_target, may_target_site, names_there, put_plan, site_written, whole_after, whole_before}
+use Rattle.art_plan.proofs.SiteWords.{HasMeaning, IsWrittenAt, children_read, may_put_site, may_put_whole, may_target, may_target_site, names_there, node_written, put_plan, site_written, whole_after, whole_before}
 
 -- ---- a prefix in three parts
 
@@ -118,9 +118,8 @@ module _ (z : Sizes) (u : View) (site : Site) (new : NewLeaf) (parting : Parting
           let new = whole_after z u v c ready s s' b 1 (kept below.stamp) refl others second_puts n below.body.now knows.there.read cut.exact in
           let kept_node : WritesNode below.body.now.layout (written w others) p (child_of below.body.now.layout w) = record { body = cut.node.body; prefix = cut.node.prefix; children = cut.node.children } in (
             p,
-            ap node_prefix old ∙ node_prefix_is below.body.now.layout w meaning ∙ knows.prefix_is ∙ sym whole,
-            subst (λ (ws : Words). WritesNode n.layout (s' (cell.Node n)) p (child_of n.layout ws)) (sym old)
-                (subst (λ (ws : Words). WritesNode n.layout ws p (child_of n.layout w)) (sym new) (subst (λ (l : Layout). WritesNode l (written w others) p (child_of l w)) knows.there.read.layout kept_node)),
+            ap node_prefix old ∙ cut_node_prefix below.body.now.layout w meaning ∙ knows.prefix_is ∙ sym whole,
+            node_written s s' below.body.now n others p knows.there.read.layout meaning old new kept_node,
           )
 
     fork_prefix_may : (v : View) → IsReady u c v → commit.May z v (inserted new) [] (commit.coming v (leaf_linked c))

@@ -1,15 +1,15 @@
 -- A leaf that goes with a node, in whose place a smaller one comes, is planned.
-use Rattle.std.proofs.Common.{◌≡◌, ◌⊎◌, ℕ, ◌<◌, ◌≤◌, List, [], ◌∷◌, map, take, Option, Some, None, refl, sym, ap, ◌∙◌, subst, subst₂, inl, inr, ⊎_elim, arith}
+use Rattle.std.proofs.Common.{◌≡◌, ◌⊎◌, ℕ, ◌<◌, ◌≤◌, List, [], ◌∷◌, map, take, cond, eqb, Option, Some, None, refl, sym, ap, ◌∙◌, subst, subst₂, inl, inr, ⊎_elim, arith}
 use Rattle.art_cell.specs.Children.{child_word}
 use Rattle.art_cell.specs.Reads.{without_child, word_of}
 use Rattle.art_cell.specs.Words.{Words, child_of, count_of, prefix_of}
-use Rattle.art_cell.specs.declared.bodies.Body.{Body}
+use Rattle.art_cell.specs.declared.cells.Body.{Body}
 use Rattle.art_cell.specs.declared.cells.Cell.TheVariants as cell
 use Rattle.art_cell.specs.declared.cells.Link.{Link}
 use Rattle.art_cell.specs.declared.cells.Link.TheVariants.{Leaf as leaf, Node as node}
 use Rattle.art_cell.specs.declared.cells.Node.{Node}
-use Rattle.art_cell.specs.declared.layouts.Layout.{Layout}
-use Rattle.art_cell.specs.declared.writes.Write.{Write}
+use Rattle.art_cell.specs.declared.cells.Layout.{Layout}
+use Rattle.art_cell.specs.declared.cells.Write.{Write}
 use Rattle.art_commit.proofs.ChangeWays.{shrink_commits}
 use Rattle.art_commit.proofs.Members.{same_commits}
 use Rattle.art_commit.specs.CommitLaws.{Before}
@@ -17,7 +17,8 @@ use Rattle.art_model.specs.declared.commands.Answer.TheVariants.{Removed}
 use Rattle.art_node.specs.Prefixes.{IsNodeOf}
 use Rattle.art_node.specs.Sizes.{smaller}
 use Rattle.art_plan.proofs.ChildPlaces.{NameThere, same_there, without_child_there}
-use Rattle.art_plan.proofs.MadeNodes.{claims_one, made_written}
+use Rattle.art_plan.proofs.MadeNodes.{claims_one, made_written, writes_same}
+use Rattle.art_plan.proofs.CutWords.{cut_count}
 use Rattle.art_plan.proofs.Planning.{may_make, node_comes, one_of_two, two_planned}
 use Rattle.art_plan.proofs.PutWords.{with_puts-other}
 use Rattle.art_plan.proofs.ReadyCells.{IsMadeCell, IsTargetCell, holds_just, node_kept, so_held}
@@ -27,13 +28,13 @@ use Rattle.art_plan.specs.Puts.{IsSitePlan, change_of, puts_of}
 use Rattle.art_plan.specs.Seen.{gone, kept, site_stamp}
 use Rattle.art_plan.specs.declared.changes.Change.{Change}
 use Rattle.art_plan.specs.declared.changes.Target.{Target}
-use Rattle.art_plan.specs.declared.parts.Below.{Below}
-use Rattle.art_plan.specs.declared.sites.Site.{Site}
+use Rattle.art_plan.specs.declared.changes.Below.{Below}
+use Rattle.art_plan.specs.declared.changes.Site.{Site}
 use Rattle.art_plan.proofs.FewChildren.{two_kept}
 use Rattle.art_plan.proofs.GoneNodes.{both_once, both_same, both_unlinked, both_words, gone_child, gone_children, gone_prefix, gone_same, gone_words, node_goes, only_goes}
 use Rattle.art_plan.specs.Remove.Cases.{HasRow, IsShrink}
 use Rattle.art_plan.specs.Remove.Removals.{IsSparse, removed, smaller_node}
-use Rattle.art_plan.specs.declared.remove.leaves.OldLeaf.{OldLeaf}
+use Rattle.art_plan.specs.declared.remove.OldLeaf.{OldLeaf}
 use Rattle.art_step.specs.Deeds.{key_of}
 use Rattle.art_step.specs.Knowledge.{IsNodeCell}
 use Rattle.art_step.specs.Steps.Commit as commit
@@ -77,17 +78,19 @@ module _ (z : Sizes) (u : View) (site : Site) (old : OldLeaf) (depth : ℕ) (bel
     module _ (v : View) (ready : IsReady u c v) (s s' : Cells) (b : Before z v s s') where
       m_written : WritesNode m.layout (s' (cell.Node m)) (node_prefix (s (cell.Node n))) (without_child (child_of n.layout (s (cell.Node n))) byte)
       m_written =
-          subst₂ (λ (p : List ℕ) (f : ℕ → Option ℕ). WritesNode m.layout (s' (cell.Node m)) p (without_child f byte))
-          (sym (gone_prefix z u v c ready s s' b below.stamp refl none_put n below.body.now knows.there.read sparse.there.meaning))
-          (sym (gone_children z u v c ready s s' b below.stamp refl none_put n below.body.now knows.there.read))
+          writes_same m.layout (s' (cell.Node m)) (prefix_of w) (node_prefix (s (cell.Node n))) (without_child (child_of below.body.now.layout w) byte) (without_child (child_of n.layout (s (cell.Node n))) byte)
           (made_written z u v c ready m made s s' b (prefix_of w) _ shrunk)
+          (sym (gone_prefix z u v c ready s s' b below.stamp refl none_put n below.body.now knows.there.read sparse.there.meaning))
+          (λ e e-low. ap (λ (o : Option ℕ). cond (eqb e byte) None o) (sym (gone_children z u v c ready s s' b below.stamp refl none_put n below.body.now knows.there.read sparse.there.meaning e e-low)))
 
       -- it has two children, as the old one had three
       m_two : IsNodeCell n (s (cell.Node n)) → HasTwo (heap_of s') m
       m_two form =
           let words = gone_words z u v c ready s s' b below.stamp refl none_put n below.body.now knows.there.read in
-          let children = gone_children z u v c ready s s' b below.stamp refl none_put n below.body.now knows.there.read in
-          two_kept s s' n m byte (child_word (leaf l)) form low (ap (λ (f : ℕ → Option ℕ). f byte) children ∙ knows.at) (subst (λ (ws : Words). 3 ≤ count_of ws) (sym words) sparse.two) m_written.children
+          let child = gone_children z u v c ready s s' b below.stamp refl none_put n below.body.now knows.there.read sparse.there.meaning byte low in
+          let count = cut_count below.body.now.layout w in
+          let two = sparse.two in
+          two_kept s s' n m byte (child_word (leaf l)) form low (child ∙ knows.at) (subst (λ (ws : Words). 3 ≤ count_of ws) (sym words) (omega (arith, two, count))) m_written.children
 
     shrink_may : (v : View) → IsReady u c v → commit.May z v (removed old) (leaf l ∷ node n ∷ []) (commit.coming v (leaf_linked c))
     shrink_may v ready s s' shape known turns =
@@ -110,7 +113,7 @@ module _ (z : Sizes) (u : View) (site : Site) (old : OldLeaf) (depth : ℕ) (bel
         (subst₂ (λ (key : List ℕ) (value : ℕ). commit.Commits z v (Done (Remove (key_of key)) (Removed value)) (node n ∷ leaf l ∷ []) (node m ∷ []) s s') row.0 row.1
         (shrink_commits z v s s' at.place (take depth k) n m byte l b (node_kept z u v c ready m knows.made) just (claims_one z u v c ready m made)
         (gone_same z u v c ready s s' b below.stamp refl none_put n below.body.now knows.there.read) at.put (m_written v ready s s' b) at.at at.was
-        (gone_child z u v c ready s s' b below.stamp refl none_put n below.body.now knows.there.read byte (leaf l) low knows.old_leaf.fits knows.at) (m_two v ready s s' b form)))
+        (gone_child z u v c ready s s' b below.stamp refl none_put n below.body.now knows.there.read sparse.there.meaning byte (leaf l) low knows.old_leaf.fits knows.at) (m_two v ready s s' b form)))
 
     children : NameThere z (child_of m.layout (word_of body))
     children = same_there z (without_child (child_of below.body.now.layout w) byte) (child_of m.layout (word_of body)) shrunk.children

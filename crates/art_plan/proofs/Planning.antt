@@ -6,14 +6,14 @@ use Rattle.art_cell.specs.Bodies.{IsBody}
 use Rattle.art_cell.specs.Children.{child_word}
 use Rattle.art_cell.specs.Reads.{word_of}
 use Rattle.art_cell.specs.Words.{child_of}
-use Rattle.art_cell.specs.declared.bodies.Body.{Body}
+use Rattle.art_cell.specs.declared.cells.Body.{Body}
 use Rattle.art_cell.specs.declared.cells.Cell.TheVariants as cell
 use Rattle.art_cell.specs.declared.cells.Link.{Link}
 use Rattle.art_cell.specs.declared.cells.Link.TheVariants.{Leaf as leaf, Node as node}
 use Rattle.art_cell.specs.declared.cells.Node.{Node}
 use Rattle.art_commit.specs.AnyChange.{SameMembers}
 use Rattle.art_commit.specs.CommitLaws.{HasNode}
-use Rattle.art_cell.specs.declared.writes.Write.{Write}
+use Rattle.art_cell.specs.declared.cells.Write.{Write}
 use Rattle.art_plan.specs.Puts.{change_of}
 use Rattle.art_plan.specs.Changes.{IsPlanned, IsReady, MayMake, MayPut, MayTarget, leaf_linked, node_made, unlinked}
 use Rattle.art_plan.specs.Seen.{kept}

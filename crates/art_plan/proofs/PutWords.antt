@@ -5,8 +5,8 @@ use Rattle.std.proofs.lemmas.List.{length-set}
 use Rattle.std.specs.List.{cons_option, filter_map, range_with_len}
 use Rattle.art_cell.specs.Reads.{change_at, changes, written}
 use Rattle.art_cell.specs.Words.{Words, size}
-use Rattle.art_cell.specs.declared.layouts.Layout.{Layout}
-use Rattle.art_cell.specs.declared.writes.Write.{Write}
+use Rattle.art_cell.specs.declared.cells.Layout.{Layout}
+use Rattle.art_cell.specs.declared.cells.Write.{Write}
 use Rattle.art_plan.specs.Changes.{with_puts}
 use Rattle.art_plan.specs.declared.changes.Put.{Put}
 use Rattle.art_step.specs.Views.{Member, words_in}

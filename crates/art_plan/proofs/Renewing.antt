@@ -3,18 +3,17 @@ use Rattle.std.proofs.Common.{◌≡◌, ◌≢◌, ◌⊎◌, ◌↔◌, ℕ, z
 use Rattle.std.specs.List.{cons_option, filter_map, slice_get}
 use Rattle.std.proofs.lemmas.List.Elements.{filter_map-append}
 use Rattle.std.proofs.lemmas.Option.{same_Some, slice_get_within}
-use Rattle.art_cell.specs.Bodies.{Becomes, IsBody}
+use Rattle.art_cell.specs.Bodies.{IsBody}
 use Rattle.art_cell.specs.Children.{child_word, link_of}
 use Rattle.art_cell.specs.Reads.{word_of, written}
 use Rattle.art_cell.specs.Words.{Words, child_of, size}
-use Rattle.art_cell.specs.declared.bodies.Body.{Body}
 use Rattle.art_cell.specs.declared.cells.Cell.{Cell}
 use Rattle.art_cell.specs.declared.cells.Cell.TheVariants as cell
 use Rattle.art_cell.specs.declared.cells.Link.{Link}
 use Rattle.art_cell.specs.declared.cells.Link.TheVariants.{Leaf as leaf, Node as node}
 use Rattle.art_cell.specs.declared.cells.Node.{Node}
-use Rattle.art_cell.specs.declared.layouts.Layout.{Layout}
-use Rattle.art_cell.specs.declared.writes.Write.{Write}
+use Rattle.art_cell.specs.declared.cells.Layout.{Layout}
+use Rattle.art_cell.specs.declared.cells.Write.{Write}
 use Rattle.art_commit.specs.AnyChange.{IsClaimed, SameMembers}
 use Rattle.art_commit.specs.CommitLaws.{HasNode}
 use Rattle.art_commit.specs.Renewals.{IsBeside, IsHeldAs, Names, WritesCopy, for_change}
@@ -30,16 +29,17 @@ use Rattle.art_plan.specs.declared.changes.Change.{Change}
 use Rattle.art_plan.specs.declared.changes.Put.{Put}
 use Rattle.art_plan.specs.declared.changes.Target.{Target}
 use Rattle.art_plan.specs.declared.changes.Twin.{Twin}
-use Rattle.art_plan.specs.declared.parts.Below.{Below}
-use Rattle.art_plan.specs.declared.sites.Site.{Site}
-use Rattle.art_plan.specs.declared.sites.Site.TheVariants.{Root, Slot}
+use Rattle.art_plan.specs.declared.changes.Below.{Below}
+use Rattle.art_plan.specs.declared.changes.Site.{Site}
+use Rattle.art_plan.specs.declared.changes.Site.TheVariants.{Root, Slot}
 use Rattle.art_plan.proofs.BodyForms.{same_form}
+use Rattle.art_plan.proofs.CutWords.{cut_body, cut_words, puts_cut}
 use Rattle.art_plan.proofs.MadeChanges.{taken_meaning}
-use Rattle.art_plan.proofs.MovedPuts.{IsLower, WasPut, either_index, lower, lower_at, lower_high, member_at, same_after, was_put, with_moved, with_none_moved, word_after}
+use Rattle.art_plan.proofs.MovedPuts.{IsLower, WasPut, either_index, lower, lower_at, lower_high, member_at, SameFirst, same_after, was_put, with_moved, with_none_moved, word_after}
 use Rattle.art_plan.proofs.Planning.{get_member}
 use Rattle.art_plan.proofs.PutWords.{Agree, changes_agree, puts_write, with_puts-append}
 use Rattle.art_plan.proofs.ReadyCells.{past_end, some_size}
-use Rattle.art_plan.proofs.SiteWords.{may_put_site, may_target, may_target_site, names_there, put_plan, whole_words}
+use Rattle.art_plan.proofs.SiteWords.{HasMeaning, long_held, may_put_site, may_target, may_target_site, names_there, put_plan, site_becomes, whole_words, words_held}
 use Rattle.art_plan.proofs.WordsWithin.{node_within}
 use Rattle.art_step.specs.Knowledge.{IsShape}
 use Rattle.art_step.specs.Shows.{Rest, Shows}
@@ -60,7 +60,7 @@ use Rattle.art_tree.proofs.Places.{at_place, same_cell}
 use Rattle.art_tree.specs.Heaps.{Cells, heap_of, node_prefix}
 use Rattle.art_tree.specs.Tree.{Place, PlaceAt, child_at_place}
 use Rattle.art_tree.specs.Tree as tree
-use Rattle.art_tree.specs.WordChanges.{WritesPlace, at_byte, cell_of}
+use Rattle.art_tree.specs.WordChanges.{WritesPlace, cell_of}
 
 -- ---- the plain change is a whole one
 
@@ -123,37 +123,28 @@ site_shows z u k depth o (Root x) fits = fits.shows
 site_shows z u k depth o (Slot x body byte) fits = fits.shows
 
 -- its words, where it was locked and the writes were put into it
-site_put : (z : Sizes) (u : View) (k : List ℕ) (depth : ℕ) (o : Option Link) (site : Site) (fits : SiteFits z u site k depth o) (d : Link) (writes : List Write) → IsSitePlan site (child_word d) writes
+site_put : (z : Sizes) (u : View) (k : List ℕ) (depth : ℕ) (o : Option Link) (site : Site) (fits : SiteFits z u site k depth o) (d : Link) (writes : List Write) → HasMeaning site → IsSitePlan site (child_word d) writes
     → (i : ℕ) (ps : List Put) (h : Holding) → IsLocked u i (kept (site_stamp site)) ps h → (t s' : Cells) → t (cell_of (site_place z u k depth o site fits)) ≡ words_in h.old
     → s' (cell_of (site_place z u k depth o site fits)) ≡ words_in (with_puts 0 (puts_of 0 writes) h.old) → WritesPlace t s' (site_place z u k depth o site fits) (Some d)
-site_put z u k depth o (Root x) fits d writes one i ps h lock t s' old new =
+site_put z u k depth o (Root x) fits d writes meaning one i ps h lock t s' old new =
     let long : length h.old ≡ 2 = lock.long ∙ ap size_of fits.read.cell in
     ap (λ (w : Words). w 1) new ∙ (ap (λ (ws : List Write). words_in (with_puts 0 (puts_of 0 ws) h.old) 1) one ∙ get_or-set_same h.old 1 (child_word d) 0 (omega (arith, long)))
-site_put z u k depth o (Slot x body byte) fits d writes plan i ps h lock t s' old new = (fits.low, becomes body.now fits.node fits.read.layout was now plan.becomes)
+site_put z u k depth o (Slot x body byte) fits d writes meaning plan i ps h lock t s' old new = (fits.low, site_becomes t s' body.now fits.node byte (Some d) writes fits.read.layout form was now plan.becomes)
   where
-    whole : words_in h.old ≡ word_of body.now
+    l : Layout
+    l = body.now.layout
+
+    whole : words_in h.old ≡ cut_words l (word_of body.now)
     whole = whole_words z u x fits.node body.now fits.read i (kept x) ps h refl lock
 
-    was : t (cell.Node fits.node) ≡ word_of body.now
+    was : t (cell.Node fits.node) ≡ cut_words l (word_of body.now)
     was = old ∙ whole
 
-    long : length h.old ≡ size body.now.layout
-    long = lock.long ∙ ap size_of fits.read.cell ∙ ap size (sym fits.read.layout)
+    form : IsBody fits.node.layout (t (cell.Node fits.node))
+    form = subst (λ (m : Layout). IsBody m (t (cell.Node fits.node))) fits.read.layout (subst (IsBody l) (sym was) (cut_body l (word_of body.now) meaning))
 
-    agree : Agree writes (length h.old) (written (words_in h.old) writes)
-    agree = subst (λ (w : Words). Agree writes (length h.old) (written w writes)) (sym whole)
-        (subst (λ (m : ℕ). Agree writes m (written (word_of body.now) writes)) (sym long) (changes_agree body.now.layout (word_of body.now) (written (word_of body.now) writes) writes plan.exact))
-
-    now : s' (cell.Node fits.node) ≡ written (word_of body.now) writes
-    now = new ∙ (puts_write 0 writes h.old agree ∙ ap (λ (w : Words). written w writes) whole)
-
-    becomes : (body : Body) (n : Node) → body.layout ≡ n.layout → t (cell.Node n) ≡ word_of body → s' (cell.Node n) ≡ written (word_of body) writes
-        → Becomes body.layout (word_of body) (written (word_of body) writes) (at_byte (child_of body.layout (word_of body)) byte (Some d))
-        → Becomes n.layout (t (cell.Node n)) (s' (cell.Node n)) (at_byte (child_of n.layout (t (cell.Node n))) byte (Some d))
-    becomes body n same a b is =
-        subst (λ (w : Words). Becomes n.layout w (s' (cell.Node n)) (at_byte (child_of n.layout w) byte (Some d))) (sym a)
-        (subst (λ (w : Words). Becomes n.layout (word_of body) w (at_byte (child_of n.layout (word_of body)) byte (Some d))) (sym b)
-        (subst (λ (l : Layout). Becomes l (word_of body) (written (word_of body) writes) (at_byte (child_of l (word_of body)) byte (Some d))) same is))
+    now : s' (cell.Node fits.node) ≡ cut_words l (written (word_of body.now) writes)
+    now = new ∙ puts_cut l (word_of body.now) writes plan.exact 0 h.old (long_held z u x fits.node body.now fits.read i (kept x) ps h refl lock) whole
 
 -- ---- the change with the renewal
 
@@ -339,12 +330,12 @@ module _ (z : Sizes) (u : View) (c : Change) (first : Bool) (site : Site) (write
   twin_is = ap words_in (sym r.words)
 
   -- and from any list of them that is as long as the node
-  twin_from : (ws : List ℕ) → length ws ≡ size n.layout → words_in ws ≡ word_of below.body.now → words_in (worn_words first c ws) ≡ word_of twin.body
-  twin_from ws long same = by_first first r.first_is ∙ twin_is
+  twin_from : (ws : List ℕ) → length ws ≡ size n.layout → SameFirst (size n.layout) ws below.body.now.words → SameFirst (size n.layout) (worn_words first c ws) twin.body.words
+  twin_from ws long same i before = by_first first r.first_is i before ∙ ap (λ (w : Words). w i) twin_is
     where
-      by_first : (b : Bool) → IsFirst b c worn → words_in (worn_words b c ws) ≡ words_in (worn_words b c below.body.now.words)
+      by_first : (b : Bool) → IsFirst b c worn → SameFirst (size n.layout) (worn_words b c ws) (worn_words b c below.body.now.words)
       by_first false none = same
-      by_first true one = same_after 0 c.puts.items ws below.body.now.words same (λ p i to.
+      by_first true one = same_after (size n.layout) 0 c.puts.items ws below.body.now.words same (λ p i to.
           let at = member_at c.puts.items p i in
           let may = r.planned.puts at.0 p at.1 in
           let is : may.target ≡ kept worn = same_Some may.target (kept worn) (sym (subst (λ (t : ℕ). target_at c t ≡ Some may.target) to may.is) ∙ one) in
@@ -618,10 +609,10 @@ module _ (z : Sizes) (u : View) (c : Change) (first : Bool) (site : Site) (write
     abbrev ns : List ℕ
     ns = worn_words first c held_worn.0.old
 
-    worn_was : words_in held_worn.0.old ≡ word_of below.body.now
-    worn_was = whole_words z u worn n below.body.now r.place.read 1 (gone worn) c'.puts.items held_worn.0 refl held_worn.2
+    worn_was : SameFirst (size n.layout) held_worn.0.old below.body.now.words
+    worn_was i low = words_held z u worn n below.body.now r.place.read 1 (gone worn) c'.puts.items held_worn.0 refl held_worn.2 i (subst (λ (l : Layout). i < size l) (sym r.place.read.layout) low)
 
-    worn_now : words_in ns ≡ word_of twin.body
+    worn_now : SameFirst (size n.layout) ns twin.body.words
     worn_now = twin_from held_worn.0.old (held_worn.2.long ∙ ap size_of at_worn) worn_was
 
     beside : IsBeside v hs n m x held_worn.0 held_copy.0 held_above.0 ns held_above.0.old
@@ -688,25 +679,24 @@ module _ (z : Sizes) (u : View) (c : Change) (first : Bool) (site : Site) (write
 
     writes_copy : WritesCopy n m x held_copy.0 held_above.0 ns held_above.0.old
     writes_copy = record {
-      put = λ t s' old new. site_put z u k depth (Some (node n)) site r.place.place (node m) writes r.put 0 c'.puts.items held_above.0 held_above.2 t s' old
+      put = λ t s' old new. site_put z u k depth (Some (node n)) site r.place.place (node m) writes (taken_meaning site r.taken) r.put 0 c'.puts.items held_above.0 held_above.2 t s' old
           (new ∙ ap words_in (held_above.2.new ∙ above_puts held_above.0.old));
       made = λ meaning.
           let f = held_copy.2 in
-          node_within m.layout (word_of twin.body) (words_in held_copy.0.new) (node_prefix (words_in ns)) (child_of n.layout (words_in ns))
-          (λ i low high. f.words i low high)
+          node_within m.layout (words_in ns) (words_in held_copy.0.new) (node_prefix (words_in ns)) (child_of n.layout (words_in ns))
+          (λ i low high. f.words i low high ∙ sym (worn_now i (subst (λ (l : Layout). i < size l) r.layout high)))
           (λ i o. ⊎_elim
           (λ (e : i ≡ 0). ap (words_in held_copy.0.new) e ∙ f.version)
           (λ (high : size m.layout ≤ i). past_end held_copy.0.new (size m.layout) i f.long high) o)
           (node_of meaning);
     }
       where
-        node_of : IsBody n.layout (words_in ns) → IsNodeOf m.layout (word_of twin.body) (node_prefix (words_in ns)) (child_of n.layout (words_in ns))
-        node_of meaning = subst (λ (l : Layout). IsNodeOf l (word_of twin.body) (node_prefix (words_in ns)) (child_of n.layout (words_in ns))) (sym r.layout)
-            (subst (λ (w : Words). IsNodeOf n.layout w (node_prefix (words_in ns)) (child_of n.layout (words_in ns))) worn_now (record {
-              body = meaning;
-              prefix = sym (Rattle.art_plan.proofs.MadeNodes.node_prefix_is n.layout (words_in ns) meaning);
-              children = λ b low. refl;
-            }))
+        node_of : IsBody n.layout (words_in ns) → IsNodeOf m.layout (words_in ns) (node_prefix (words_in ns)) (child_of n.layout (words_in ns))
+        node_of meaning = subst (λ (l : Layout). IsNodeOf l (words_in ns) (node_prefix (words_in ns)) (child_of n.layout (words_in ns))) (sym r.layout) (record {
+          body = meaning;
+          prefix = sym (Rattle.art_plan.proofs.MadeNodes.node_prefix_is n.layout (words_in ns) meaning);
+          children = λ b low. refl;
+        })
 
     -- the site has the worn node, in each tree that is as the pass knows it
     named : (s : Cells) → IsShape z s → Knows v s → Names s x n

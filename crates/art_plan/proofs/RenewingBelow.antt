@@ -10,13 +10,13 @@ use Rattle.art_cell.specs.Bodies.{Becomes, IsBody}
 use Rattle.art_cell.specs.Children.{child_word, link_of}
 use Rattle.art_cell.specs.Reads.{with_child, word_of}
 use Rattle.art_cell.specs.Words.{Words, child_of, prefix_of, size}
-use Rattle.art_cell.specs.declared.bodies.Body.{Body}
+use Rattle.art_cell.specs.declared.cells.Body.{Body}
 use Rattle.art_cell.specs.declared.cells.Cell.{Cell}
 use Rattle.art_cell.specs.declared.cells.Cell.TheVariants as cell
 use Rattle.art_cell.specs.declared.cells.Link.{Link}
 use Rattle.art_cell.specs.declared.cells.Link.TheVariants.{Leaf as leaf, Node as node}
 use Rattle.art_cell.specs.declared.cells.Node.{Node}
-use Rattle.art_cell.specs.declared.layouts.Layout.{Layout}
+use Rattle.art_cell.specs.declared.cells.Layout.{Layout}
 use Rattle.art_commit.specs.AnyChange.{IsClaimed, SameMembers}
 use Rattle.art_commit.specs.CommitLaws.{HasNode}
 use Rattle.art_commit.specs.Renewals.{IsBeside, IsHeldAs, Names, WritesCopy, for_change}
@@ -31,15 +31,15 @@ use Rattle.art_plan.specs.declared.changes.Change.{Change}
 use Rattle.art_plan.specs.declared.changes.Put.{Put}
 use Rattle.art_plan.specs.declared.changes.Target.{Target}
 use Rattle.art_plan.specs.declared.changes.Twin.{Twin}
-use Rattle.art_plan.specs.declared.parts.Below.{Below}
-use Rattle.art_plan.specs.declared.sites.Site.{Site}
+use Rattle.art_plan.specs.declared.changes.Below.{Below}
+use Rattle.art_plan.specs.declared.changes.Site.{Site}
 use Rattle.art_plan.proofs.BodyForms.{node_forms, same_form}
 use Rattle.art_plan.proofs.ChildPlaces.{NameThere, children_there, same_there, with_child_there}
-use Rattle.art_plan.proofs.MovedPuts.{member_at, same_after, word_after}
+use Rattle.art_plan.proofs.MovedPuts.{SameFirst, member_at, same_after, word_after}
 use Rattle.art_plan.proofs.Planning.{get_member, one_of_two}
 use Rattle.art_plan.proofs.Renewing.{site_place, site_shows}
 use Rattle.art_plan.proofs.ReadyCells.{past_end, some_size}
-use Rattle.art_plan.proofs.SiteWords.{may_target, may_target_site, names_there, whole_words}
+use Rattle.art_plan.proofs.SiteWords.{may_target, may_target_site, names_there, words_held}
 use Rattle.art_plan.proofs.WordsWithin.{node_within}
 use Rattle.art_step.specs.Knowledge.{IsShape}
 use Rattle.art_step.specs.Shows.{Rest}
@@ -235,14 +235,14 @@ module _ (z : Sizes) (u : View) (c : Change) (site : Site) (o : Node) (a : ℕ) 
   twin_is : words_in (with_puts 1 c.puts.items below.body.now.words) ≡ word_of twin.body
   twin_is = ap words_in (sym r.words)
 
-  twin_from : (ws : List ℕ) → length ws ≡ size n.layout → words_in ws ≡ word_of below.body.now → words_in (with_puts 1 c.puts.items ws) ≡ word_of twin.body
-  twin_from ws long same = same_after 1 c.puts.items ws below.body.now.words same (λ p i to.
+  twin_from : (ws : List ℕ) → length ws ≡ size n.layout → SameFirst (size n.layout) ws below.body.now.words → SameFirst (size n.layout) (with_puts 1 c.puts.items ws) twin.body.words
+  twin_from ws long same j before = same_after (size n.layout) 1 c.puts.items ws below.body.now.words same (λ p i to.
       let at = member_at c.puts.items p i in
       let may = r.planned.puts at.0 p at.1 in
       let is : may.target ≡ kept worn = same_Some may.target (kept worn) (sym (subst (λ (t : ℕ). target_at c t ≡ Some may.target) to may.is) ∙ was_worn) in
       let low : p.place < size n.layout = subst (λ (d : Cell). p.place < size_of d) (ap (λ (q : Target). q.stamp.cell) is ∙ at_worn) may.place.1 in
       let room = r.long in
-      (omega arith, omega arith)) ∙ twin_is
+      (omega arith, omega arith)) j before ∙ ap (λ (w : Words). w j) twin_is
 
   forms_there : (i : ℕ) → IsWordOf z (cell.Node m) i (word_of twin.body i)
   forms_there i = same_form z m n i (word_of twin.body i) r.same (subst (λ (w : Words). IsWordOf z (cell.Node n) i (w i)) twin_is
@@ -531,10 +531,10 @@ module _ (z : Sizes) (u : View) (c : Change) (site : Site) (o : Node) (a : ℕ) 
     abbrev ns : List ℕ
     ns = with_puts 1 c.puts.items held_worn.0.old
 
-    worn_was : words_in held_worn.0.old ≡ word_of below.body.now
-    worn_was = whole_words z u worn n below.body.now r.place.read 1 (gone worn) c'.puts.items held_worn.0 refl held_worn.2
+    worn_was : SameFirst (size n.layout) held_worn.0.old below.body.now.words
+    worn_was i low = words_held z u worn n below.body.now r.place.read 1 (gone worn) c'.puts.items held_worn.0 refl held_worn.2 i (subst (λ (l : Layout). i < size l) (sym r.place.read.layout) low)
 
-    worn_now : words_in ns ≡ word_of twin.body
+    worn_now : SameFirst (size n.layout) ns twin.body.words
     worn_now = twin_from held_worn.0.old (held_worn.2.long ∙ ap size_of at_worn) worn_was
 
     -- a holding for the change alone of a cell that is held here
@@ -610,8 +610,8 @@ module _ (z : Sizes) (u : View) (c : Change) (site : Site) (o : Node) (a : ℕ) 
       );
       made = λ meaning.
           let f = held_copy.2 in
-          node_within m.layout (word_of twin.body) (words_in held_copy.0.new) (node_prefix (words_in ns)) (child_of n.layout (words_in ns))
-          (λ i low high. f.words i low high)
+          node_within m.layout (words_in ns) (words_in held_copy.0.new) (node_prefix (words_in ns)) (child_of n.layout (words_in ns))
+          (λ i low high. f.words i low high ∙ sym (worn_now i (subst (λ (l : Layout). i < size l) r.same high)))
           (λ i y. ⊎_elim
           (λ (e : i ≡ 0). ap (words_in held_copy.0.new) e ∙ f.version)
           (λ (high : size m.layout ≤ i). past_end held_copy.0.new (size m.layout) i f.long high) y)
@@ -625,13 +625,12 @@ module _ (z : Sizes) (u : View) (c : Change) (site : Site) (o : Node) (a : ℕ) 
           children = λ b low. new_node.children b low ∙ ap (λ (y : Option ℕ). cond (eqb b a) (Some (child_word (node m))) y) (sym (plain_node.children b low));
         }
 
-        node_of : IsBody n.layout (words_in ns) → IsNodeOf m.layout (word_of twin.body) (node_prefix (words_in ns)) (child_of n.layout (words_in ns))
-        node_of meaning = subst (λ (l : Layout). IsNodeOf l (word_of twin.body) (node_prefix (words_in ns)) (child_of n.layout (words_in ns))) (sym r.same)
-            (subst (λ (w : Words). IsNodeOf n.layout w (node_prefix (words_in ns)) (child_of n.layout (words_in ns))) worn_now (record {
-              body = meaning;
-              prefix = sym (Rattle.art_plan.proofs.MadeNodes.node_prefix_is n.layout (words_in ns) meaning);
-              children = λ b low. refl;
-            }))
+        node_of : IsBody n.layout (words_in ns) → IsNodeOf m.layout (words_in ns) (node_prefix (words_in ns)) (child_of n.layout (words_in ns))
+        node_of meaning = subst (λ (l : Layout). IsNodeOf l (words_in ns) (node_prefix (words_in ns)) (child_of n.layout (words_in ns))) (sym r.same) (record {
+          body = meaning;
+          prefix = sym (Rattle.art_plan.proofs.MadeNodes.node_prefix_is n.layout (words_in ns) meaning);
+          children = λ b low. refl;
+        })
 
     -- the worn node is in each tree that is as the pass knows it
     worn_linked : (s : Cells) → IsShape z s → Knows v s → IsLinked s (node n)

@@ -1,20 +1,20 @@
 -- The body of a node of which all words were read, and a check succeeded after that: it is the node of a tree.
-use Rattle.std.proofs.Common.{◌≡◌, ℕ, ◌<◌, ◌≤◌, Bool, cond, List, Option, Some, None, refl, sym, ap, ◌∙◌, subst, inl, inr, ⊎_elim, arith}
-use Rattle.std.proofs.lemmas.Bool.{cases_lt, le-ltb}
+use Rattle.std.proofs.Common.{◌≡◌, ℕ, ◌^◌, ◌<◌, Bool, cond, List, Option, Some, None, refl, sym, ap, ◌∙◌, subst, inl, inr, arith}
+use Rattle.std.proofs.lemmas.Bool.{cases_eq, cases_lt, le-ltb}
 use Rattle.std.specs.Option.{option_and_then}
 use Rattle.art_cell.specs.Bodies.{IsBody}
 use Rattle.art_cell.specs.Children.{link_of}
 use Rattle.art_cell.specs.Reads.{word_of}
 use Rattle.art_cell.specs.Words.{Words, child_of, prefix_of, size}
-use Rattle.art_cell.specs.declared.bodies.Body.{Body}
+use Rattle.art_cell.specs.declared.cells.Body.{Body}
 use Rattle.art_cell.specs.declared.cells.Cell.{Cell}
 use Rattle.art_cell.specs.declared.cells.Cell.TheVariants as cell
 use Rattle.art_cell.specs.declared.cells.Link.{Link}
 use Rattle.art_cell.specs.declared.cells.Link.TheVariants.{Node as node}
 use Rattle.art_cell.specs.declared.cells.Node.{Node}
-use Rattle.art_cell.specs.declared.layouts.Layout.{Layout}
+use Rattle.art_cell.specs.declared.cells.Layout.{Layout}
 use Rattle.art_plan.specs.ChooseInsert.Bodies.{IsFilled}
-use Rattle.art_plan.proofs.WordsWithin.{SameWithin, node_within}
+use Rattle.art_plan.proofs.WordsWithin.{SameWithin, body_within, child_within, prefix_within}
 use Rattle.art_plan.specs.Puts.{HasChild}
 use Rattle.art_step.proofs.Shows.{prefix_on}
 use Rattle.art_step.specs.Knowledge.{CellAt, HoldsAll, IsNodeCell, IsShape}
@@ -28,7 +28,7 @@ use Rattle.art_tree.proofs.Meanings.{child_is, words_mean}
 use Rattle.art_tree.specs.Heaps.{Cells, heap_of}
 use Rattle.art_tree.specs.Tree.{StandsAt}
 use Rattle.art_tree.specs.WordChanges.{FitsWord, WritesNode}
-use Rattle.art_plan.proofs.WholeCells.{IsWhole, nothing_there, word_there}
+use Rattle.art_plan.proofs.WholeCells.{IsWhole, read_whole, word_there}
 
 -- ---- the child words of a linked node
 
@@ -83,12 +83,28 @@ module _ (z : Sizes) (u : View) (x : Stamp) (reads : List (Option ℕ)) (whole :
   same_words i low high =
       sym (subst (λ (c : Cell). s c i ≡ word_of body i) at (holds (note_of x (Word i (word_of body i))) (word_there z u x reads whole n at body filled i low high).noted refl))
 
+  -- and behind them each takes 64 bits
+  words_fit : (i : ℕ) → word_of body i < 2 ^ 64
+  words_fit i = elim (cases_lt i (size n.layout)) [
+    | inl low ↦ elim (cases_eq i 0) [
+      | inl first ↦
+          let version = (read_whole z u x reads whole n at body filled).version in
+          subst (λ (p : ℕ). word_of body p < 2 ^ 64) (sym first) (omega (arith, version))
+      | inr later ↦
+          let same = same_words i (omega (arith, later)) low in
+          let bound = form.body.words i in
+          omega (arith, same, bound)
+    ]
+    | inr high ↦ (filled n at).behind i high
+  ]
+
   -- it has the prefix and the children of the node
   pub seen_node : WritesNode n.layout (word_of body) (prefix_of w) (child_of n.layout w)
-  seen_node = node_within n.layout w (word_of body) (prefix_of w) (child_of n.layout w) same_words
-      (λ i outside. nothing_there z u x reads whole n at body filled i (λ low high.
-      ⊎_elim (λ (first : i ≡ 0). omega (arith, first, low)) (λ (past : size n.layout ≤ i). omega (arith, past, high)) outside))
-      (record { body = form.body; prefix = refl; children = λ b low. refl })
+  seen_node = record {
+    body = body_within w (word_of body) n.layout same_words form.body words_fit;
+    prefix = prefix_within w (word_of body) n.layout same_words form.body;
+    children = λ b low. child_within w (word_of body) n.layout b same_words form.body.form low;
+  }
 
   layout_is : body.layout ≡ n.layout
   layout_is = (filled n at).layout

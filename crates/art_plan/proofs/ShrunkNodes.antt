@@ -3,8 +3,8 @@ use Rattle.std.proofs.Common.{◌≡◌, ℕ, ◌<◌, ◌≤◌, sym, ap, ◌�
 use Rattle.art_cell.specs.Bodies.{Becomes, IsRelaid}
 use Rattle.art_cell.specs.Reads.{without_child, word_of}
 use Rattle.art_cell.specs.Words.{Words, child_of, count_of, places, prefix_of}
-use Rattle.art_cell.specs.declared.bodies.Body.{Body}
-use Rattle.art_cell.specs.declared.layouts.Layout.{Layout}
+use Rattle.art_cell.specs.declared.cells.Body.{Body}
+use Rattle.art_cell.specs.declared.cells.Layout.{Layout}
 use Rattle.art_node.specs.Prefixes.{IsNodeOf}
 use Rattle.art_node.specs.Sizes.{smaller}
 use Rattle.art_plan.specs.Remove.Removals.{IsSparse}

@@ -7,14 +7,14 @@ use Rattle.art_cell.specs.Bodies.{Becomes, IsBody}
 use Rattle.art_cell.specs.Children.{child_word}
 use Rattle.art_cell.specs.Reads.{IsPlan, changes, word_of, written}
 use Rattle.art_cell.specs.Words.{Words, child_of, size}
-use Rattle.art_cell.specs.declared.bodies.Body.{Body}
+use Rattle.art_cell.specs.declared.cells.Body.{Body}
 use Rattle.art_cell.specs.declared.cells.Cell.{Cell}
 use Rattle.art_cell.specs.declared.cells.Cell.TheVariants as cell
 use Rattle.art_cell.specs.declared.cells.Link.{Link}
 use Rattle.art_cell.specs.declared.cells.Link.TheVariants.{Node as node}
 use Rattle.art_cell.specs.declared.cells.Node.{Node}
-use Rattle.art_cell.specs.declared.layouts.Layout.{Layout}
-use Rattle.art_cell.specs.declared.writes.Write.{Write}
+use Rattle.art_cell.specs.declared.cells.Layout.{Layout}
+use Rattle.art_cell.specs.declared.cells.Write.{Write}
 use Rattle.art_commit.specs.CommitLaws.{Before}
 use Rattle.art_plan.specs.Puts.{IsDropPlan, IsSitePlan, put_of, puts_of}
 use Rattle.art_plan.specs.Changes.{IsLocked, IsReady, MayPut, MayTarget, target_at, with_puts}
@@ -22,8 +22,8 @@ use Rattle.art_plan.specs.Seen.{HasAt, IsReadWhole, SiteFits, kept, site_stamp}
 use Rattle.art_plan.specs.declared.changes.Change.{Change}
 use Rattle.art_plan.specs.declared.changes.Put.{Put}
 use Rattle.art_plan.specs.declared.changes.Target.{Target}
-use Rattle.art_plan.specs.declared.sites.Site.{Site}
-use Rattle.art_plan.specs.declared.sites.Site.TheVariants.{Root, Slot}
+use Rattle.art_plan.specs.declared.changes.Site.{Site}
+use Rattle.art_plan.specs.declared.changes.Site.TheVariants.{Root, Slot}
 use Rattle.art_step.specs.Knowledge.{HoldsAll, IsShape}
 use Rattle.art_step.specs.Views.{IsChildWord, IsNumber, IsWordOf, Member, note_of, size_of, words_in}
 use Rattle.art_step.specs.declared.views.Fact.TheVariants.{Word}
@@ -37,9 +37,10 @@ use Rattle.art_tree.proofs.Places.{at_place, one_path}
 use Rattle.art_tree.specs.Heaps.{Cells, heap_of}
 use Rattle.art_tree.specs.Tree.{Place, PlaceAt, child_at_place, StandsAt}
 use Rattle.art_tree.specs.Tree as tree
-use Rattle.art_tree.specs.WordChanges.{FitsWord, WritesPlace, at_byte, cell_of, word_of_child}
+use Rattle.art_tree.specs.WordChanges.{FitsWord, WritesNode, WritesPlace, at_byte, cell_of, word_of_child}
 use Rattle.art_plan.proofs.ChildPlaces.{IsPlaceOf, NameThere, children_there, same_there, with_child_there, without_child_there}
 use Rattle.art_plan.proofs.BodyForms.{node_forms}
+use Rattle.art_plan.proofs.CutWords.{becomes_cut, cut_behind, cut_body, cut_inside, cut_words, puts_cut, writes_cut}
 use Rattle.art_step.proofs.WordForms.{root_word}
 use Rattle.art_plan.proofs.PutWords.{Agree, changes_agree, put_is, puts_write}
 use Rattle.art_plan.proofs.ReadyCells.{locked, new_words, old_words, so_held}
@@ -60,20 +61,24 @@ module _ (z : Sizes) (u : View) (x : Stamp) (n : Node) (body : Body) (read : IsR
   children_read meaning = children_there z body.layout (word_of body) meaning (λ i at. (read.forms i).child (subst (λ (k : Layout). IsPlaceOf k i) read.layout at))
 
   -- where it is locked, it has the words of the body
-  pub whole_words : (i : ℕ) (t : Target) (ps : List Put) (h : Holding) → t.stamp ≡ x → IsLocked u i t ps h → words_in h.old ≡ word_of body
-  whole_words i t ps h is l = λ j p. each p j
-    where
-      long : length h.old ≡ size n.layout
-      long = l.long ∙ ap size_of (ap (λ (y : Stamp). y.cell) is ∙ read.cell)
+  module _ (i : ℕ) (t : Target) (ps : List Put) (h : Holding) (is : t.stamp ≡ x) (l : IsLocked u i t ps h) where
+    pub long_held : length h.old ≡ size body.layout
+    long_held = l.long ∙ ap size_of (ap (λ (y : Stamp). y.cell) is ∙ read.cell) ∙ ap size (sym read.layout)
 
-      each : (p : ℕ) → words_in h.old p ≡ word_of body p
-      each zero = l.version ∙ sym read.version
-      each (suc p) = elim (cases_lt (suc p) (size n.layout)) [
-        | inl low ↦
-            let agrees = subst (λ (y : Stamp). (q value : ℕ) → Member (note_of y (Word q value)) u.notes → words_in h.old q ≡ value) is l.agrees in
-            agrees (suc p) (word_of body (suc p)) (read.noted (suc p) (omega arith) low)
-        | inr past ↦ get_or_past h.old (suc p) 0 (omega (arith, long, past)) ∙ sym (read.past (suc p) past)
-      ]
+    pub words_held : (p : ℕ) → p < size body.layout → words_in h.old p ≡ word_of body p
+    words_held zero low = l.version ∙ sym read.version
+    words_held (suc p) low =
+        let agrees = subst (λ (y : Stamp). (q value : ℕ) → Member (note_of y (Word q value)) u.notes → words_in h.old q ≡ value) is l.agrees in
+        agrees (suc p) (word_of body (suc p)) (read.noted (suc p) (omega arith) (subst (λ (k : Layout). suc p < size k) read.layout low))
+
+    pub whole_words : words_in h.old ≡ cut_words body.layout (word_of body)
+    whole_words = λ j p. each p j
+      where
+        each : (p : ℕ) → words_in h.old p ≡ cut_words body.layout (word_of body) p
+        each p = elim (cases_lt p (size body.layout)) [
+          | inl low ↦ words_held p low ∙ sym (cut_inside body.layout (word_of body) p low)
+          | inr high ↦ get_or_past h.old p 0 (omega (arith, long_held, high)) ∙ sym (cut_behind body.layout (word_of body) p high)
+        ]
 
   -- the words of a plan may be put, where the node that they make has children that there are
   pub may_put_whole : (c : Change) (i : ℕ) (t : Target) (writes : List Write) → target_at c i ≡ Some t → t.stamp ≡ x → writes ≡ changes body.layout (word_of body) (written (word_of body) writes)
@@ -100,23 +105,20 @@ module _ (z : Sizes) (u v : View) (c : Change) (ready : IsReady u c v) (s s' : C
   module _ (i : ℕ) (t : Target) (is : target_at c i ≡ Some t) (writes : List Write) (puts : (ws : List ℕ) → with_puts i c.puts.items ws ≡ with_puts i (puts_of i writes) ws) where
     module _ (n : Node) (body : Body) (read : IsReadWhole z u t.stamp n body) where
       -- the words of a node before
-      pub whole_before : s (cell.Node n) ≡ word_of body
+      pub whole_before : s (cell.Node n) ≡ cut_words body.layout (word_of body)
       whole_before =
           let h = locked z u v c ready i t is in
-          subst (λ (d : Cell). s d ≡ word_of body) read.cell (old_words z u v c ready s s' b i t is ∙ whole_words z u t.stamp n body read i t c.puts.items h.0 refl h.2)
+          subst (λ (d : Cell). s d ≡ cut_words body.layout (word_of body)) read.cell (old_words z u v c ready s s' b i t is ∙ whole_words z u t.stamp n body read i t c.puts.items h.0 refl h.2)
 
       -- and after the writes of a plan
-      pub whole_after : writes ≡ changes body.layout (word_of body) (written (word_of body) writes) → s' (cell.Node n) ≡ written (word_of body) writes
+      pub whole_after : writes ≡ changes body.layout (word_of body) (written (word_of body) writes) → s' (cell.Node n) ≡ cut_words body.layout (written (word_of body) writes)
       whole_after exact =
           let h = locked z u v c ready i t is in
           let old = h.0.old in
-          let was : words_in old ≡ word_of body = whole_words z u t.stamp n body read i t c.puts.items h.0 refl h.2 in
-          let long : length old ≡ size body.layout = h.2.long ∙ ap size_of read.cell ∙ ap size (sym read.layout) in
-          let agree = changes_agree body.layout (word_of body) (written (word_of body) writes) writes exact in
-          let agree_old : Agree writes (length old) (written (words_in old) writes) =
-          subst (λ (w : Words). Agree writes (length old) (written w writes)) (sym was) (subst (λ (m : ℕ). Agree writes m (written (word_of body) writes)) (sym long) agree) in
-          subst (λ (d : Cell). s' d ≡ written (word_of body) writes) read.cell
-          (new_words z u v c ready s s' b i t is ∙ ap words_in (puts old) ∙ puts_write i writes old agree_old ∙ ap (λ (w : Words). written w writes) was)
+          subst (λ (d : Cell). s' d ≡ cut_words body.layout (written (word_of body) writes)) read.cell
+          (new_words z u v c ready s s' b i t is ∙ ap words_in (puts old) ∙ puts_cut body.layout (word_of body) writes exact i old
+          (long_held z u t.stamp n body read i t c.puts.items h.0 refl h.2)
+          (whole_words z u t.stamp n body read i t c.puts.items h.0 refl h.2))
 
     -- the anchor's child word after it was put
     pub root_after : (child : ℕ) → t.stamp.cell ≡ cell.Anchor → writes ≡ record { place = 1; value = child } ∷ [] → s' cell.Anchor 1 ≡ child
@@ -147,6 +149,35 @@ pub drop_plan : (site : Site) (writes : List Write) → IsDropPlan site writes �
 drop_plan (Root x) writes plan = plan
 drop_plan (Slot x body byte) writes plan = plan
 
+-- where a node has the words of a plan, it means what the plan says
+pub site_becomes : (s s' : Cells) (body : Body) (n : Node) (byte : ℕ) (d : Option Link) (writes : List Write) → body.layout ≡ n.layout → IsBody n.layout (s (cell.Node n))
+    → s (cell.Node n) ≡ cut_words body.layout (word_of body) → s' (cell.Node n) ≡ cut_words body.layout (written (word_of body) writes)
+    → Becomes body.layout (word_of body) (written (word_of body) writes) (at_byte (child_of body.layout (word_of body)) byte d)
+    → Becomes n.layout (s (cell.Node n)) (s' (cell.Node n)) (at_byte (child_of n.layout (s (cell.Node n))) byte d)
+site_becomes s s' body n byte d writes same meaning old new is =
+    let k = body.layout in
+    let w = cut_words k (word_of body) in
+    let after = cut_words k (written (word_of body) writes) in
+    let whole : IsBody k w = subst (IsBody k) old (subst (λ (l : Layout). IsBody l (s (cell.Node n))) (sym same) meaning) in
+    subst (λ (v : Words). Becomes n.layout v (s' (cell.Node n)) (at_byte (child_of n.layout v) byte d)) (sym old)
+    (subst (λ (v : Words). Becomes n.layout w v (at_byte (child_of n.layout w) byte d)) (sym new)
+    (subst (λ (l : Layout). Becomes l w after (at_byte (child_of l w) byte d)) same
+    (becomes_cut k (word_of body) (written (word_of body) writes) whole byte d is)))
+
+-- or with another prefix
+pub node_written : (s s' : Cells) (body : Body) (n : Node) (writes : List Write) (p : List ℕ) → body.layout ≡ n.layout → IsBody body.layout (word_of body)
+    → s (cell.Node n) ≡ cut_words body.layout (word_of body) → s' (cell.Node n) ≡ cut_words body.layout (written (word_of body) writes)
+    → WritesNode body.layout (written (word_of body) writes) p (child_of body.layout (word_of body))
+    → WritesNode n.layout (s' (cell.Node n)) p (child_of n.layout (s (cell.Node n)))
+node_written s s' body n writes p same meaning old new is =
+    let k = body.layout in
+    let w = cut_words k (word_of body) in
+    let after = cut_words k (written (word_of body) writes) in
+    subst (λ (v : Words). WritesNode n.layout (s' (cell.Node n)) p (child_of n.layout v)) (sym old)
+    (subst (λ (v : Words). WritesNode n.layout v p (child_of n.layout w)) (sym new)
+    (subst (λ (l : Layout). WritesNode l after p (child_of l w)) same
+    (writes_cut k (word_of body) (written (word_of body) writes) (cut_body k (word_of body) meaning) p is)))
+
 -- the site is in the tree at the end of the path r, and has the child o; and this child is written there, or none
 pub record IsWrittenAt (s s' : Cells) (x : Stamp) (r : List ℕ) (o d : Option Link) : Type 0 where
   pub place : tree.Place
@@ -175,16 +206,8 @@ module _ (z : Sizes) (u v : View) (c : Change) (ready : IsReady u c v) (s s' : C
         cell_is = sym fits.read.cell;
         at = so.0;
         was = so.1;
-        put = (fits.low, becomes body.now fits.node fits.read.layout old new plan.becomes);
+        put = (fits.low, site_becomes s s' body.now fits.node byte d writes fits.read.layout (b.shape.nodes fits.node so.0.0 so.0.1).body old new plan.becomes);
       }
-    where
-      becomes : (body : Body) (n : Node) → body.layout ≡ n.layout → s (cell.Node n) ≡ word_of body → s' (cell.Node n) ≡ written (word_of body) writes
-          → Becomes body.layout (word_of body) (written (word_of body) writes) (at_byte (child_of body.layout (word_of body)) byte d)
-          → Becomes n.layout (s (cell.Node n)) (s' (cell.Node n)) (at_byte (child_of n.layout (s (cell.Node n))) byte d)
-      becomes body n same old new is =
-          subst (λ (w : Words). Becomes n.layout w (s' (cell.Node n)) (at_byte (child_of n.layout w) byte d)) (sym old)
-          (subst (λ (w : Words). Becomes n.layout (word_of body) w (at_byte (child_of n.layout (word_of body)) byte d)) (sym new)
-          (subst (λ (l : Layout). Becomes l (word_of body) (written (word_of body) writes) (at_byte (child_of l (word_of body)) byte d)) same is))
 
 -- the words of its node are those of a node
 abbrev pub HasMeaning : Site → Type 0

@@ -4,19 +4,19 @@ use Rattle.std.specs.Borrow.{Bor}
 use Rattle.art_cell.specs.Children.{child_word}
 use Rattle.art_cell.specs.Reads.{word_of}
 use Rattle.art_cell.specs.Words.{child_of}
-use Rattle.art_cell.specs.declared.bodies.Body.{Body}
+use Rattle.art_cell.specs.declared.cells.Body.{Body}
 use Rattle.art_cell.specs.declared.cells.Cell.TheVariants as cell
 use Rattle.art_cell.specs.declared.cells.Link.TheVariants.{Leaf as leaf, Node as node}
 use Rattle.art_cell.specs.declared.cells.Node.{Node}
-use Rattle.art_cell.specs.declared.layouts.Layout.{Layout}
-use Rattle.art_cell.specs.declared.layouts.Layout.TheVariants.{Node4, Node16, Node48, Node256}
+use Rattle.art_cell.specs.declared.cells.Layout.{Layout}
+use Rattle.art_cell.specs.declared.cells.Layout.TheVariants.{Node4, Node16, Node48, Node256}
 use Rattle.art_node.specs.Sizes.{smaller}
 use Rattle.art_plan.proofs.FoundLeaves.{found_at, found_below, found_leaf, found_meaning}
 use Rattle.art_plan.proofs.LeftChildren.{gives_sparse, gives_to}
 use Rattle.art_plan.specs.ChooseRemove.Losses.{loss_at}
 use Rattle.art_plan.specs.ChooseRemove.Plans.{HasFound, HasSmaller}
 use Rattle.art_plan.specs.ChooseRemove.Seen.{AreSeen, IsSeen}
-use Rattle.art_plan.specs.declared.choose_remove.losses.Loss.TheVariants.{Shrinks}
+use Rattle.art_plan.specs.declared.choose_remove.Loss.TheVariants.{Shrinks}
 use Rattle.art_plan.specs.ArtCommit.CommitLaws.{HasNode}
 use Rattle.art_plan.specs.ChooseInsert.Bodies.{IsFilled, site_in}
 use Rattle.art_plan.specs.ArtFind.ReadSets.{above_of, node_of}
@@ -24,10 +24,10 @@ use Rattle.art_plan.specs.ArtFind.Findings.{IsStanding}
 use Rattle.art_plan.specs.ArtFind.declared.read_sets.ReadSet.{ReadSet}
 use Rattle.art_plan.specs.ArtFind.declared.findings.Above.{Above}
 use Rattle.art_plan.specs.ArtFind.declared.findings.Position.{Position}
-use Rattle.art_plan.specs.declared.sites.Site.{Site}
+use Rattle.art_plan.specs.declared.changes.Site.{Site}
 use Rattle.art_plan.specs.Remove.Cases.{IsShrink}
 use Rattle.art_plan.specs.Remove.Removals.{IsSparse, smaller_node}
-use Rattle.art_plan.specs.declared.remove.leaves.OldLeaf.{OldLeaf}
+use Rattle.art_plan.specs.declared.remove.OldLeaf.{OldLeaf}
 use Rattle.art_step.specs.declared.views.Sizes.{Sizes}
 use Rattle.art_step.specs.declared.views.View.{View}
 

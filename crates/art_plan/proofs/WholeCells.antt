@@ -1,15 +1,20 @@
 -- A cell of which all words are known, as a body or as the anchor's word.
-use Rattle.std.proofs.Common.{◌≡◌, ◌≢◌, ℕ, ◌<◌, ◌≤◌, List, Option, Some, None, refl, sym, ap, ◌∙◌, subst, ⊎_elim, arith}
+use Rattle.std.proofs.Common.{◌≡◌, ◌≢◌, ℕ, ◌<◌, ◌≤◌, List, map, Option, Some, None, refl, sym, ap, ◌∙◌, subst, ⊎_elim, arith}
 use Rattle.std.specs.Prelude.{unwrap_or}
+use Rattle.std.specs.List.{range_with_len}
+use Rattle.std.proofs.lemmas.List.{get_or_past}
+use Rattle.std.proofs.lemmas.List.FromFn.{get_or-map-range_with_len, length-map-range_with_len}
 use Rattle.std.proofs.lemmas.Bool.{cases_eq, cases_lt}
 use Rattle.std.proofs.lemmas.Option.{same_Some}
 use Rattle.art_cell.specs.Reads.{Agrees, word_of, word_read}
 use Rattle.art_cell.specs.Words.{size}
-use Rattle.art_cell.specs.declared.bodies.Body.{Body}
+use Rattle.art_cell.specs.declared.cells.Body.{Body}
 use Rattle.art_cell.specs.declared.cells.Cell.{Cell}
 use Rattle.art_cell.specs.declared.cells.Cell.TheVariants as cell
 use Rattle.art_cell.specs.declared.cells.Node.{Node}
-use Rattle.art_plan.specs.ChooseInsert.Bodies.{AreWithin, HasWords, IsFilled}
+use Rattle.art_plan.specs.ChooseInsert.Bodies.{HasWords, IsFilled}
+use Rattle.art_plan.proofs.BodyForms.{any_behind}
+use Rattle.art_plan.proofs.WordsWithin.{past_prefix}
 use Rattle.art_find.specs.ReadSets.{above_of, node_of}
 use Rattle.art_find.specs.Findings.{IsAboveOf, IsStanding, IsUnder}
 use Rattle.art_find.specs.Kept.{IsKept, WasReadAt}
@@ -64,20 +69,34 @@ module _ (z : Sizes) (k : List ℕ) (t : Position) (read_set : ReadSet) (u : Vie
 
 -- ---- as what a plan goes by
 
--- each word that is known is that of the body
-pub filled_agrees : (n : Node) (reads : List (Option ℕ)) (body : Body) → HasWords n reads body → Agrees reads (word_of body)
-filled_agrees n reads body has place value is = has.words place ∙ ap (λ (o : Option ℕ). unwrap_or o 0) is
+-- the words that were read of the node, as a body: 0 where none was
+abbrev word_or : List (Option ℕ) → ℕ → ℕ
+word_or reads i = unwrap_or (word_read reads i) 0
 
--- and outside of the cell none is
-pub kept_within : (z : Sizes) (u : View) (x : Stamp) (reads : List (Option ℕ)) → IsKept z u x reads → AreWithin x.cell reads
-kept_within z u x reads words place word is = let was = words.each place word is in (was.after, was.inside)
+abbrev pub body_read : Node → List (Option ℕ) → Body
+body_read n reads = record { layout = n.layout; words = map (word_or reads) (range_with_len 0 (size n.layout)) }
 
-pub unknown_outside : (c : Cell) (reads : List (Option ℕ)) (i : ℕ) → AreWithin c reads → (0 < i → i < size_of c → ⊥) → unwrap_or (word_read reads i) 0 ≡ 0
-unknown_outside c reads i within out = by_word (word_read reads i) refl
+pub has_read : (n : Node) (reads : List (Option ℕ)) → HasWords n reads (body_read n reads)
+has_read n reads = record {
+  layout = refl;
+  words = λ i low. get_or-map-range_with_len (word_or reads) 0 (size n.layout) i i 0 low (omega arith);
+  behind = λ i high.
+      let none = get_or_past (map (word_or reads) (range_with_len 0 (size n.layout))) i 0 (omega (arith, high, length-map-range_with_len (word_or reads) 0 (size n.layout))) in
+      omega (arith, none);
+}
+
+-- each word that was read of the node is that of the body
+pub filled_agrees : (z : Sizes) (u : View) (x : Stamp) (reads : List (Option ℕ)) → IsKept z u x reads → (n : Node) → x.cell ≡ cell.Node n → (body : Body) → HasWords n reads body → Agrees reads (word_of body)
+filled_agrees z u x reads kept n at body has place value is =
+    has.words place (subst (λ (c : Cell). place < size_of c) at (kept.each place value is).inside) ∙ ap (λ (o : Option ℕ). unwrap_or o 0) is
+
+-- the version is not read
+version_unread : (z : Sizes) (u : View) (x : Stamp) (reads : List (Option ℕ)) → IsKept z u x reads → unwrap_or (word_read reads 0) 0 ≡ 0
+version_unread z u x reads kept = by_word (word_read reads 0) refl
   where
-    by_word : (o : Option ℕ) → word_read reads i ≡ o → unwrap_or o 0 ≡ 0
+    by_word : (o : Option ℕ) → word_read reads 0 ≡ o → unwrap_or o 0 ≡ 0
     by_word None is = refl
-    by_word (Some w) is = let was = within i w is in absurd (out was.0 was.1)
+    by_word (Some w) is = let after = (kept.each 0 w is).after in absurd (omega (arith, after))
 
 module _ (z : Sizes) (u : View) (x : Stamp) (reads : List (Option ℕ)) (whole : IsWhole z u x reads) where
   may_kept : MayTarget z u (kept x)
@@ -93,11 +112,7 @@ module _ (z : Sizes) (u : View) (x : Stamp) (reads : List (Option ℕ)) (whole :
     pub word_there : (i : ℕ) → 0 < i → i < size n.layout → WasReadAt z u x i (word_of body i)
     word_there i low high =
         let one = whole.known i (omega (arith, low)) (subst (λ (c : Cell). i < size_of c) (sym at) high) in
-        subst (WasReadAt z u x i) (sym (filled_agrees n reads body (filled n at) i one.0 one.1)) (whole.words.each i one.0 one.1)
-
-    -- and outside is 0
-    pub nothing_there : (i : ℕ) → (0 < i → i < size n.layout → ⊥) → word_of body i ≡ 0
-    nothing_there i out = (filled n at).words i ∙ unknown_outside x.cell reads i (kept_within z u x reads whole.words) (λ low high. out low (subst (λ (c : Cell). i < size_of c) at high))
+        subst (WasReadAt z u x i) (sym (filled_agrees z u x reads whole.words n at body (filled n at) i one.0 one.1)) (whole.words.each i one.0 one.1)
 
     -- so each word has its form
     form_there : (i : ℕ) → IsWordOf z (cell.Node n) i (word_of body i)
@@ -106,7 +121,7 @@ module _ (z : Sizes) (u : View) (x : Stamp) (reads : List (Option ℕ)) (whole :
         (λ (none : i ≡ 0). no_word z (cell.Node n) i (word_of body i) (λ after. absurd (omega (arith, none, after))))
         (λ (after : i ≢ 0). subst (λ (c : Cell). IsWordOf z c i (word_of body i)) at (word_there i (omega (arith, after)) low).form)
         (cases_eq i 0))
-        (λ (high : size n.layout ≤ i). no_word z (cell.Node n) i (word_of body i) (λ _. nothing_there i (λ _ before. omega (arith, high, before))))
+        (λ (high : size n.layout ≤ i). any_behind z n i (word_of body i) high)
         (cases_lt i (size n.layout))
 
     pub read_whole : IsReadWhole z u x n body
@@ -116,6 +131,5 @@ module _ (z : Sizes) (u : View) (x : Stamp) (reads : List (Option ℕ)) (whole :
       layout = (filled n at).layout;
       noted = λ i low high. (word_there i low high).noted;
       forms = form_there;
-      version = nothing_there 0 (λ low high. omega (arith, low));
-      past = λ i high. nothing_there i (λ low before. omega (arith, high, before));
+      version = let high = past_prefix n.layout in (filled n at).words 0 (omega (arith, high)) ∙ version_unread z u x reads whole.words;
     }

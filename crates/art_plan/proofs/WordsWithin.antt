@@ -8,8 +8,8 @@ use Rattle.art_cell.specs.Lemmas.Entries.{same_listed}
 use Rattle.art_cell.specs.Lemmas.Headers.{SamePrefix, prefix_kept, same_prefix_of}
 use Rattle.art_cell.specs.Lemmas.Packed.{packed_same}
 use Rattle.art_cell.specs.Words.{Words, child_of, count_of, indexed_child, is_used, key_byte, nonzero, prefix_of, size, sorted_child}
-use Rattle.art_cell.specs.declared.layouts.Layout.{Layout}
-use Rattle.art_cell.specs.declared.layouts.Layout.TheVariants.{Node4, Node16, Node48, Node256}
+use Rattle.art_cell.specs.declared.cells.Layout.{Layout}
+use Rattle.art_cell.specs.declared.cells.Layout.TheVariants.{Node4, Node16, Node48, Node256}
 use Rattle.art_node.specs.Prefixes.{IsNodeOf}
 use Rattle.art_tree.specs.WordChanges.{WritesNode}
 

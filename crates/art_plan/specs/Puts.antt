@@ -3,13 +3,13 @@ use Rattle.std.specs.Prelude.{◌≡◌, ℕ, List, [], ◌∷◌, map, Option, 
 use Rattle.art_cell.specs.Bodies.{IsBody, IsFull}
 use Rattle.art_cell.specs.Reads.{IsPlan, with_child, without_child, word_of}
 use Rattle.art_cell.specs.Words.{child_of}
-use Rattle.art_cell.specs.declared.bodies.Body.{Body}
-use Rattle.art_cell.specs.declared.writes.Write.{Write}
+use Rattle.art_cell.specs.declared.cells.Body.{Body}
+use Rattle.art_cell.specs.declared.cells.Write.{Write}
 use Rattle.art_plan.specs.declared.changes.Change.{Change}
 use Rattle.art_plan.specs.declared.changes.Put.{Put}
 use Rattle.art_plan.specs.declared.changes.Target.{Target}
-use Rattle.art_plan.specs.declared.sites.Site.{Site}
-use Rattle.art_plan.specs.declared.sites.Site.TheVariants.{Root, Slot}
+use Rattle.art_plan.specs.declared.changes.Site.{Site}
+use Rattle.art_plan.specs.declared.changes.Site.TheVariants.{Root, Slot}
 use Rattle.art_step.specs.declared.deeds.Deed.{Deed}
 
 -- ---- the words of a site

@@ -4,11 +4,11 @@ use Rattle.art_cell.specs.Children.{child_word}
 use Rattle.art_cell.specs.Bodies.{IsBody}
 use Rattle.art_cell.specs.Reads.{with_child, word_of}
 use Rattle.art_cell.specs.Words.{child_of, prefix_of, size}
-use Rattle.art_cell.specs.declared.bodies.Body.{Body}
-use Rattle.art_cell.specs.declared.layouts.Layout.TheVariants.{Node4}
+use Rattle.art_cell.specs.declared.cells.Body.{Body}
+use Rattle.art_cell.specs.declared.cells.Layout.TheVariants.{Node4}
 use Rattle.art_cell.specs.declared.cells.Link.TheVariants.{Node as node}
 use Rattle.art_cell.specs.declared.cells.Node.{Node}
-use Rattle.art_cell.specs.declared.writes.Write.{Write}
+use Rattle.art_cell.specs.declared.cells.Write.{Write}
 use Rattle.art_commit.specs.CommitLaws.{HasNode}
 use Rattle.art_node.specs.Prefixes.{IsNodeOf}
 use Rattle.art_plan.specs.Changes.{IsPlanned, node_made, target_at, unlinked, with_puts}
@@ -19,8 +19,8 @@ use Rattle.art_plan.specs.declared.changes.Change.{Change}
 use Rattle.art_plan.specs.declared.changes.Put.{Put}
 use Rattle.art_plan.specs.declared.changes.Target.{Target}
 use Rattle.art_plan.specs.declared.changes.Twin.{Twin}
-use Rattle.art_plan.specs.declared.parts.Below.{Below}
-use Rattle.art_plan.specs.declared.sites.Site.{Site}
+use Rattle.art_plan.specs.declared.changes.Below.{Below}
+use Rattle.art_plan.specs.declared.changes.Site.{Site}
 use Rattle.art_step.specs.Views.{Member}
 use Rattle.art_step.specs.declared.views.Sizes.{Sizes}
 use Rattle.art_step.specs.declared.views.Stamp.{Stamp}

@@ -1,18 +1,18 @@
 -- What a pass has read of the cells that a change writes, and where a child word stands in them.
-use Rattle.std.specs.Prelude.{◌≡◌, ◌≢◌, ℕ, ◌<◌, ◌≤◌, List, take, true, false, Option, Some}
+use Rattle.std.specs.Prelude.{◌≡◌, ◌≢◌, ℕ, ◌<◌, List, take, true, false, Option, Some}
 use Rattle.art_cell.specs.Children.{child_word}
 use Rattle.art_cell.specs.Reads.{word_of}
 use Rattle.art_cell.specs.Words.{size}
-use Rattle.art_cell.specs.declared.bodies.Body.{Body}
+use Rattle.art_cell.specs.declared.cells.Body.{Body}
 use Rattle.art_cell.specs.declared.cells.Cell.TheVariants as cells
 use Rattle.art_cell.specs.declared.cells.Link.{Link}
 use Rattle.art_cell.specs.declared.cells.Link.TheVariants.{Node as node}
 use Rattle.art_cell.specs.declared.cells.Node.{Node}
 use Rattle.art_plan.specs.Changes.{MayTarget}
 use Rattle.art_plan.specs.declared.changes.Target.{Target}
-use Rattle.art_plan.specs.declared.parts.Below.{Below}
-use Rattle.art_plan.specs.declared.sites.Site.{Site}
-use Rattle.art_plan.specs.declared.sites.Site.TheVariants.{Root, Slot}
+use Rattle.art_plan.specs.declared.changes.Below.{Below}
+use Rattle.art_plan.specs.declared.changes.Site.{Site}
+use Rattle.art_plan.specs.declared.changes.Site.TheVariants.{Root, Slot}
 use Rattle.art_step.specs.Shows.{Shows}
 use Rattle.art_step.specs.Views.{IsWordOf, Member, note_of}
 use Rattle.art_step.specs.declared.views.Fact.TheVariants.{Word}
@@ -38,8 +38,8 @@ gone x = record { stamp = x; obsolete = true }
 abbrev pub word_below : Below → ℕ
 word_below below = child_word (node below.node)
 
--- the node may be locked under the stamp, and each of its words was noted: the body has them, and 0 elsewhere. Each has the
--- form of its place
+-- the node may be locked under the stamp, and each of its words was noted: the body has them, and 0 in place of the version. Each
+-- has the form of its place
 pub record IsReadWhole (z : Sizes) (u : View) (x : Stamp) (n : Node) (body : Body) : Type 0 where
   pub may : MayTarget z u (kept x)
   pub cell : x.cell ≡ cells.Node n
@@ -47,7 +47,6 @@ pub record IsReadWhole (z : Sizes) (u : View) (x : Stamp) (n : Node) (body : Bod
   pub noted : (i : ℕ) → 0 < i → i < size n.layout → Member (note_of x (Word i (word_of body i))) u.notes
   pub forms : (i : ℕ) → IsWordOf z (cells.Node n) i (word_of body i)
   pub version : word_of body 0 ≡ 0
-  pub past : (i : ℕ) → size n.layout ≤ i → word_of body i ≡ 0
 
 -- the anchor may be locked under the stamp, and its child word was noted
 pub record IsReadRoot (z : Sizes) (u : View) (x : Stamp) (word : ℕ) : Type 0 where

@@ -57,19 +57,15 @@ mod changes;
 mod choose_insert;
 mod choose_remove;
 mod insert;
-mod parts;
 mod remove;
 mod renewals;
-mod sites;
 
 pub use art_find;
-pub use changes::{Change, Put, Target, Twin};
-pub use choose_insert::{Bodies, Needs, needed, plan_insert};
+pub use changes::{Below, Bodies, Change, Put, Site, Target, Twin};
+pub use choose_insert::{Needs, needed, plan_insert};
 pub use choose_remove::{
     Loss, Lower, lost, other_child, plan_drop, plan_merge_leaf, plan_merge_node, plan_shrink,
 };
 pub use insert::NewLeaf;
-pub use parts::Below;
 pub use remove::OldLeaf;
 pub use renewals::{renew, renew_below};
-pub use sites::Site;

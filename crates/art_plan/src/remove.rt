@@ -53,13 +53,192 @@
 //! Its targets may be locked and are different cells, its words may be written, and once all of them are, in every tree that is
 //! as the pass knows it, they are a commit of the removal. And it locks just the cells of the table's third column, in that order
 //! (`locks`). What is about any change stands in `art_plan`.
+ghost use Rattle.std.specs.Prelude.{◌≡◌, [], None, ◌∷◌, ℕ, true, false, Some};
+ghost use Rattle.art_plan.specs.Puts.{change_of, IsTaken, HasChild};
+ghost use Rattle.art_plan.specs.Remove.Removals.{removed, KeepsTwo, remove_effects, IsTooLong, joined, IsSparse, smaller_node};
+ghost use Rattle.art_plan.specs.Changes.{IsPlanned, targets};
+ghost use Rattle.art_plan.specs.NewWords.{PutsNone, PutsChild, PutsPrefix};
+ghost use Rattle.art_plan.specs.Seen.{kept, site_stamp, gone, word_below};
+ghost use Rattle.art_plan.specs.Remove.Cases.{IsDrop, IsMergeLeaf, IsMergeNode, IsShrink};
+ghost use Rattle.art_step.specs.declared.views.Sizes.{Sizes};
+ghost use Rattle.art_step.specs.declared.views.View.{View};
+ghost use Rattle.art_cell.specs.Bodies.{IsBody, Becomes};
+ghost use Rattle.art_cell.specs.Reads.{word_of, IsBodyOf, without_child};
+ghost use Rattle.art_cell.specs.declared.cells.Link.TheVariants.{Leaf as leaf, Node as node};
+ghost use Rattle.art_cell.specs.Words.{child_of, prefix_of};
+ghost use Rattle.art_node.specs.Prefixes.{IsNodeOf};
+ghost use Rattle.art_node.specs.Sizes.{smaller};
 
-mod drops;
-mod leaves;
-mod merges;
-mod shrinks;
+use crate::changes::{dropped, lock, make, put_writes, replaced, unlink};
+use crate::{Below, Change, Site};
+use art_cell::{Body, Layout, Link, Node, NodeKind};
+use art_key::Key;
+use art_model::Answer;
+use art_node::{child_word, plan_prefix};
+use art_node4::Node4;
+use art_node16::Node16;
+use art_node48::Node48;
+use art_node256::Node256;
+use art_path::{Parts, join};
+use art_step::{Act, Deed};
 
-pub(crate) use drops::drop;
-pub use leaves::OldLeaf;
-pub(crate) use merges::{merge_leaf, merge_node};
-pub(crate) use shrinks::shrink;
+/// A leaf of the tree, by its number, and the key and the value that it has.
+#[derive(Drop)]
+pub struct OldLeaf {
+    pub number: u32,
+    pub key: Key,
+    pub value: u64,
+}
+
+/// Makes it the removal of the leaf's key, which locks, writes, makes and unlinks nothing yet.
+pub(crate) fn begin(change: &mut Change, leaf: &OldLeaf)
+    ensures { change.new ≡ change_of [] [] change.old.writes.items None change.old.body None [] (removed leaf.now) }
+{
+    let key = Key::try_from(leaf.key.as_slice()).unwrap();
+    let deed = Deed::Done(Act::Remove(key), Answer::Removed(leaf.value));
+    crate::changes::begin(change, deed, None);
+}
+
+/// The leaf goes from the site: the anchor, or a byte of a node that keeps two children.
+pub(crate) fn drop(change: &mut Change, site: &Site, old: &OldLeaf)
+    requires taken { IsTaken site.now }
+    requires two { KeepsTwo site.now }
+    ensures planned { (z : Sizes) (u : View) (depth : ℕ) → IsDrop z u site.now old.now depth → IsPlanned z u change.new }
+    ensures targets { targets change.new ≡ 1 }
+    ensures locks { change.new.targets.items ≡ kept (site_stamp site.now) ∷ [] }
+    ensures effects { change.new.effects ≡ remove_effects old.now [] }
+    ensures puts { PutsNone site.now change.new.puts.items }
+{
+    let old_leaf = child_word(Link::Leaf(old.number));
+    dropped(site, &mut change.writes);
+    begin(change, old);
+    lock(change, site.stamp(), false);
+    unlink(change, old_leaf);
+    put_writes(change, 0);
+}
+
+/// The leaf goes from the node below the site, which has one other child, a leaf: that one takes the node's place.
+pub(crate) fn merge_leaf(change: &mut Change, site: &Site, below: &Below, other: u32, old: &OldLeaf)
+    requires { IsTaken site.now }
+    ensures planned { (z : Sizes) (u : View) (depth byte beside : ℕ)
+        → IsMergeLeaf z u site.now old.now depth below.now byte beside other → IsPlanned z u change.new }
+    ensures targets { targets change.new ≡ 2 }
+    ensures locks { change.new.targets.items ≡ kept (site_stamp site.now) ∷ gone below.now.stamp ∷ [] }
+    ensures effects { change.new.effects ≡ remove_effects old.now (word_below below.now ∷ []) }
+    ensures puts { PutsChild site.now (leaf other) change.new.puts.items }
+{
+    let old_leaf = child_word(Link::Leaf(old.number));
+    let old_node = child_word(Link::Node(below.node));
+    replaced(site, child_word(Link::Leaf(other)), &mut change.writes);
+    begin(change, old);
+    lock(change, site.stamp(), false);
+    lock(change, below.stamp, true);
+    unlink(change, old_leaf);
+    unlink(change, old_node);
+    put_writes(change, 0);
+}
+
+/// The leaf goes from the node below the site, which has one other child, a node: that one takes its place, and has the node's
+/// prefix, its own byte and its own prefix as its prefix, which are the parts. False where these are more than 64 bytes.
+pub(crate) fn merge_node(
+    change: &mut Change,
+    site: &Site,
+    below: &Below,
+    lower: &Below,
+    parts: &Parts,
+    old: &OldLeaf,
+) -> bool
+    requires taken { IsTaken site.now }
+    requires meaning { IsBody lower.now.body.now.layout (word_of lower.now.body.now) }
+    ensures planned { result ≡ true → (z : Sizes) (u : View) (depth byte : ℕ)
+        → IsMergeNode z u site.now old.now depth below.now byte lower.now parts.now → IsPlanned z u change.new }
+    ensures targets { result ≡ true → targets change.new ≡ 3 }
+    ensures locks { result ≡ true →
+        change.new.targets.items ≡ kept (site_stamp site.now) ∷ gone below.now.stamp ∷ kept lower.now.stamp ∷ [] }
+    ensures deed { change.new.effects.deed ≡ removed old.now }
+    ensures leaf { change.new.effects.leaf ≡ None }
+    ensures effects { result ≡ true → change.new.effects ≡ remove_effects old.now (word_below below.now ∷ []) }
+    ensures refused { result ≡ false → IsTooLong parts.now }
+    ensures puts { result ≡ true →
+        PutsPrefix site.now (node lower.now.node) 2 lower.now.body.now (joined parts.now) change.new.puts.items }
+{
+    begin(change, old);
+    if parts.front.len() + 1 + parts.rest.len() > 64 {
+        return false;
+    }
+    let prefix = join(parts.front.as_slice(), parts.byte, parts.rest.as_slice());
+    let old_leaf = child_word(Link::Leaf(old.number));
+    let old_node = child_word(Link::Node(below.node));
+    lock(change, site.stamp(), false);
+    lock(change, below.stamp, true);
+    lock(change, lower.stamp, false);
+    unlink(change, old_leaf);
+    unlink(change, old_node);
+    replaced(site, child_word(Link::Node(lower.node)), &mut change.writes);
+    put_writes(change, 0);
+    plan_prefix(lower.body, prefix.as_slice(), &mut change.writes);
+    put_writes(change, 2);
+    true
+}
+
+/// The leaf goes from a byte of the node below the site: the next smaller one has the other children, and takes its place.
+pub(crate) fn shrink(
+    change: &mut Change,
+    site: &Site,
+    below: &Below,
+    byte: u8,
+    old: &OldLeaf,
+    made: u32,
+)
+    requires taken { IsTaken site.now }
+    requires sparse { IsSparse below.now.body.now byte }
+    ensures planned { (z : Sizes) (u : View) (depth : ℕ)
+        → IsShrink z u site.now old.now depth below.now byte (smaller_node below.now.body.now made) → IsPlanned z u change.new }
+    ensures targets { targets change.new ≡ 2 }
+    ensures locks { change.new.targets.items ≡ kept (site_stamp site.now) ∷ gone below.now.stamp ∷ [] }
+    ensures effects { change.new.effects ≡ remove_effects old.now (word_below below.now ∷ []) }
+    ensures puts { PutsChild site.now (node (smaller_node below.now.body.now made)) change.new.puts.items }
+{
+    shrunk(below.body, byte, &mut change.body);
+    let new_node = child_word(Link::Node(Node {
+        layout: change.body.layout,
+        number: made,
+    }));
+    replaced(site, new_node, &mut change.writes);
+    let old_leaf = child_word(Link::Leaf(old.number));
+    let old_node = child_word(Link::Node(below.node));
+    begin(change, old);
+    lock(change, site.stamp(), false);
+    lock(change, below.stamp, true);
+    unlink(change, old_leaf);
+    unlink(change, old_node);
+    make(change, made);
+    put_writes(change, 0);
+}
+
+/// Makes the second body the next smaller node, without the child of the byte.
+fn shrunk(body: &Body, byte: u8, less: &mut Body)
+    requires sparse { IsSparse body.now byte }
+    ensures layout { less.new.layout ≡ smaller body.now.layout }
+    ensures node { IsNodeOf (smaller body.now.layout) (word_of less.new) (prefix_of (word_of body.now))
+        (without_child (child_of body.now.layout (word_of body.now)) byte) }
+{
+    let mut same_layout = *body;
+    take(&mut same_layout, byte);
+    art_node::shrink(&same_layout, less);
+}
+
+/// Takes the child of the byte away.
+fn take(body: &mut Body, byte: u8)
+    requires { HasChild body.old byte }
+    ensures layout { body.new.layout ≡ body.old.layout }
+    ensures less { Becomes body.old.layout (word_of body.old) (word_of body.new)
+        (without_child (child_of body.old.layout (word_of body.old)) byte) }
+{
+    match body.layout {
+        Layout::Node4 => Node4::take(body, byte),
+        Layout::Node16 => Node16::take(body, byte),
+        Layout::Node48 => Node48::take(body, byte),
+        Layout::Node256 => Node256::take(body, byte),
+    }
+}

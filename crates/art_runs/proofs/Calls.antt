@@ -4,7 +4,7 @@ use Rattle.std.proofs.lemmas.Bool.{cond_both}
 use Rattle.std.proofs.lemmas.List.{append_cancel_right}
 use Rattle.std.specs.Prelude.{nat_lt}
 use Rattle.arrayvec.specs.ArrayVec.{ArrayVec}
-use Rattle.art_call.specs.ArtAttempt.declared.rooms.Room.{Room}
+use Rattle.art_call.specs.ArtAttempt.declared.attempts.Room.{Room}
 use Rattle.art_call.specs.AsAsked.{GoesBy, WriteWaits}
 use Rattle.art_call.specs.Calls.{Get, GoesOn, HasGroundOf, Insert, IsGround, Look, Remove, Wish, may_end}
 use Rattle.art_call.specs.Outcomes.{of_write}

@@ -5,7 +5,7 @@ use Rattle.std.specs.Prelude.{Result, Ok, Err, ⊤, ◌==◌, ◌%◌}
 use Rattle.art_cell.specs.declared.cells.Cell.{Cell}
 use Rattle.art_cell.specs.declared.cells.Cell.TheVariants as cell
 use Rattle.art_cell.specs.declared.cells.Link.TheVariants.{Node as node}
-use Rattle.art_cell.specs.declared.layouts.Pool.{Pool}
+use Rattle.art_cell.specs.declared.cells.Pool.{Pool}
 use Rattle.art_call.proofs.ArtFind.Allowed.{none_held}
 use Rattle.art_call.proofs.ArtChange.FrameSteps.{IsFrame}
 use Rattle.art_machine.specs.Acting.{Answers, IsLook}

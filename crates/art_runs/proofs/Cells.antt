@@ -11,7 +11,7 @@ use Rattle.art_cell.specs.declared.cells.Cell.TheVariants as cell
 use Rattle.art_cell.specs.declared.cells.Link.TheVariants.{Node as node}
 use Rattle.art_cell.specs.declared.cells.Node.{Node}
 use Rattle.art_call.proofs.ArtPlan.SeenBodies.{stands}
-use Rattle.art_call.proofs.ArtPlan.WholeCells.{IsWhole, node_whole}
+use Rattle.art_call.proofs.ArtPlan.WholeCells.{IsWhole, body_read, has_read, node_whole}
 use Rattle.art_call.specs.ArtPlan.ChooseInsert.Bodies.{HasWords, IsFilled}
 use Rattle.art_call.proofs.ArtFind.Allowed.{none_held}
 use Rattle.art_call.specs.ArtFind.Descents as descents
@@ -34,12 +34,11 @@ use Rattle.art_call.specs.ArtLook.Looks as looks
 use Rattle.art_call.specs.ArtLook.declared.looks.LookStage.{LookStage}
 use Rattle.art_call.specs.ArtLook.declared.looks.LookStage.TheVariants as look
 use Rattle.art_call.specs.ArtLook.declared.path_buffers.PathBuffer.{PathBuffer}
-use Rattle.art_call.proofs.ArtAttempt.LowerNames.{body_read, has_read}
 use Rattle.art_call.specs.ArtFind.ReadSets.{node_of}
 use Rattle.art_call.specs.ArtFind.Rereadings.{reads_next}
 use Rattle.art_call.specs.ArtFind.declared.read_sets.ReadSet.{ReadSet}
 use Rattle.art_call.specs.ArtFind.declared.findings.Position.{Position}
-use Rattle.art_call.specs.ArtFind.declared.rereadings.Rereading.{Rereading}
+use Rattle.art_call.specs.ArtFind.declared.read_sets.Rereading.{Rereading}
 use Rattle.art_call.proofs.ArtPlan.ChildPlaces.{IsPlaceOf, place_byte}
 use Rattle.art_runs.proofs.Calm.{IsCellFounded, IsLedTo}
 use Rattle.art_step.proofs.Shows.{child_on}

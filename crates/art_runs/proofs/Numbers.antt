@@ -5,15 +5,15 @@ use Rattle.std.proofs.lemmas.Option.{same_Some}
 use Rattle.std.specs.Option.{option_and_then}
 use Rattle.std.specs.Prelude.{nat_lt}
 use Rattle.art_cell.specs.Leaves.{leaf_word}
-use Rattle.art_cell.specs.declared.layouts.Layout.{Layout}
-use Rattle.art_cell.specs.declared.layouts.Layout.TheVariants.{Node4, Node16, Node48, Node256}
-use Rattle.art_cell.specs.declared.layouts.Pool.{Pool}
-use Rattle.art_cell.specs.declared.layouts.Pool.TheVariants.{Leaves}
+use Rattle.art_cell.specs.declared.cells.Layout.{Layout}
+use Rattle.art_cell.specs.declared.cells.Layout.TheVariants.{Node4, Node16, Node48, Node256}
+use Rattle.art_cell.specs.declared.cells.Pool.{Pool}
+use Rattle.art_cell.specs.declared.cells.Pool.TheVariants.{Leaves}
 use Rattle.art_epoch.specs.Taking as taking
 use Rattle.art_epoch.specs.Taking.{IsSeen, SearchFits, around}
-use Rattle.art_epoch.specs.declared.taking.Search.{Search}
-use Rattle.art_epoch.specs.declared.taking.Search.TheVariants.{Looking, Clearing, Took}
-use Rattle.art_epoch.specs.declared.taking.Taking.{Taking}
+use Rattle.art_epoch.specs.declared.stocks.Search.{Search}
+use Rattle.art_epoch.specs.declared.stocks.Search.TheVariants.{Looking, Clearing, Took}
+use Rattle.art_epoch.specs.declared.stocks.Taking.{Taking}
 use Rattle.art_call.specs.ArtEpoch.Stocks.{IsIn, node_in}
 use Rattle.art_call.specs.ArtEpoch.declared.stocks.Stock.{Stock}
 use Rattle.art_call.specs.ArtAttempt.Reserve as reserve

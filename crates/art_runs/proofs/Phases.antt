@@ -22,7 +22,7 @@ use Rattle.art_call.specs.ArtAttempt.declared.attempts.Stage.TheVariants as atte
 use Rattle.art_call.specs.ArtAttempt.declared.attempts.Part.{Part}
 use Rattle.art_call.specs.ArtAttempt.declared.attempts.Part.TheVariants as part
 use Rattle.art_call.specs.ArtFind.declared.findings.Position.{Position}
-use Rattle.art_call.specs.ArtAttempt.declared.rooms.Room.{Room}
+use Rattle.art_call.specs.ArtAttempt.declared.attempts.Room.{Room}
 use Rattle.art_cell.specs.declared.cells.Cell.{Cell as CellOf}
 use Rattle.art_cell.specs.declared.cells.Cell.TheVariants as cell
 use Rattle.art_cell.specs.declared.cells.Node.{Node}

@@ -10,7 +10,7 @@ use Rattle.art_call.specs.ArtAttempt.declared.attempts.Job.{Job}
 use Rattle.art_call.specs.ArtAttempt.declared.attempts.Part.{Part}
 use Rattle.art_call.specs.ArtAttempt.declared.attempts.Part.TheVariants as part
 use Rattle.art_call.specs.ArtFind.declared.findings.Position.{Position}
-use Rattle.art_call.specs.ArtAttempt.declared.rooms.Room.{Room}
+use Rattle.art_call.specs.ArtAttempt.declared.attempts.Room.{Room}
 use Rattle.art_call.specs.Calls.{GoesOn, Wish, restarts_of}
 use Rattle.art_call.specs.declared.callers.Call.{Call}
 use Rattle.art_call.specs.declared.callers.Call.TheVariants as call

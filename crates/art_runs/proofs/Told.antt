@@ -10,7 +10,7 @@ use Rattle.art_call.specs.ArtAttempt.Trying.{StillTries}
 use Rattle.art_call.specs.ArtAttempt.declared.attempts.Attempt.{Attempt}
 use Rattle.art_call.specs.ArtAttempt.declared.attempts.Stage.{Stage as AttemptStage}
 use Rattle.art_call.specs.ArtAttempt.declared.attempts.Stage.TheVariants as attempt
-use Rattle.art_call.specs.ArtAttempt.declared.rooms.Room.{Room}
+use Rattle.art_call.specs.ArtAttempt.declared.attempts.Room.{Room}
 use Rattle.art_call.specs.Calls.{GoesOn, Get, Insert, IsCalling, IsWriting, Look, Remove, Wish, told_by}
 use Rattle.art_call.specs.Outcomes.{of_write}
 use Rattle.art_call.specs.declared.callers.Call.{Call}

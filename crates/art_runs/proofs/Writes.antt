@@ -1,6 +1,6 @@
 -- A write that alone makes steps: no step of it fails, and its stamps stay current as long as they may be looked at.
 use Rattle.std.proofs.Common.{◌≡◌, ◌+◌, ◌<◌, ◌≤◌, ℕ, true, List, length, Option, Some, None, sym, ap, ◌∙◌, arith, ⊎_elim}
-use Rattle.art_call.specs.ArtAttempt.declared.rooms.Room.{Room}
+use Rattle.art_call.specs.ArtAttempt.declared.attempts.Room.{Room}
 use Rattle.art_call.specs.AsAsked.{WriteMakes}
 use Rattle.art_call.specs.ArtAttempt.Asking.{Answers, IsAllowed, given}
 use Rattle.art_call.proofs.ArtChange.FrameSteps.{IsFrame, exit_frame, enter_frame}
@@ -10,9 +10,9 @@ use Rattle.art_call.specs.ArtAttempt.declared.attempts.Attempt.{Attempt}
 use Rattle.art_call.specs.ArtChange.declared.writes.Stage.{Stage}
 use Rattle.art_call.specs.ArtChange.declared.writes.Stage.TheVariants as stage
 use Rattle.art_call.specs.ArtChange.declared.writes.Write.{Write}
+use Rattle.art_epoch.proofs.Stocked.{at_most_five}
 use Rattle.art_epoch.specs.declared.limbo.Place.{Place}
 use Rattle.art_call.specs.ArtEpoch.Exit as exits
-use Rattle.art_call.specs.ArtEpoch.Stocks.{count_in, one_of}
 use Rattle.art_call.specs.ArtEpoch.declared.exit.Exit.{Exit}
 use Rattle.art_call.specs.ArtEpoch.declared.exit.Exit.TheVariants.{Labelling, Giving, Ended}
 use Rattle.art_call.specs.ArtEpoch.declared.stocks.Stock.{Stock}
@@ -35,22 +35,9 @@ use Rattle.art_world.specs.Lasting.{IsTimely}
 -- ---- the frame
 
 -- a close makes few steps
-one_few : (o : Option ℕ) → one_of o ≤ 1
-one_few None = omega arith
-one_few (Some i) = omega arith
-
-count_few : (s : Stock) → count_in s ≤ 5
-count_few s =
-    let a = one_few s.leaf in
-    let b = one_few s.node4 in
-    let c = one_few s.node16 in
-    let d = one_few s.node48 in
-    let e = one_few s.node256 in
-    omega (arith, a, b, c, d, e)
-
 exit_few : (c : Exit) (s : Stock) → exits.steps_left c s ≤ 7
-exit_few Labelling s = let few = count_few s in omega (arith, few)
-exit_few Giving s = let few = count_few s in omega (arith, few)
+exit_few Labelling s = let few = at_most_five s in omega (arith, few)
+exit_few Giving s = let few = at_most_five s in omega (arith, few)
 exit_few Ended s = omega arith
 
 -- ---- a step of a write, of a call that began with the view u and met no failure yet

@@ -1,6 +1,6 @@
 -- A pass that alone makes steps, while every other pass is idle: what it knows of the words.
 use Rattle.std.specs.Prelude.{◌≡◌, ◌≢◌, ◌⊎◌, ◌++◌, ◌<◌, ◌≤◌, ℕ, List, [], length, Some}
-use Rattle.art_cell.specs.declared.layouts.Pool.{Pool}
+use Rattle.art_cell.specs.declared.cells.Pool.{Pool}
 use Rattle.art_step.specs.Steps.Take.{last_found}
 use Rattle.art_step.specs.Views.{IsNotHeld, Member, Memory, Views, bit_of, number_at}
 use Rattle.art_step.specs.declared.views.Found.{Found}

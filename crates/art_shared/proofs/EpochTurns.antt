@@ -6,7 +6,7 @@ use Rattle.std.proofs.lemmas.Nat.Bits.{and_pow}
 use Rattle.std.proofs.Math.Nat.{mod-eq_of_lt}
 use Rattle.std.specs.Prelude.{◌==◌, None, Some, bit_and, bit_or}
 use Rattle.art_cell.specs.declared.cells.Link.{Link}
-use Rattle.art_cell.specs.declared.layouts.Pool.{Pool}
+use Rattle.art_cell.specs.declared.cells.Pool.{Pool}
 use Rattle.art_step.specs.declared.views.Sizes.{Sizes}
 use Rattle.art_step.specs.declared.views.View.{View}
 use Rattle.art_step.specs.Effects.{FindsEpoch, FindsPassWord, PutsPassWord, RaisesEpoch, SetsBit, SetsFreeWord}

@@ -6,7 +6,7 @@ use Rattle.std.proofs.lemmas.Option.{same_Some}
 use Rattle.std.specs.Option.{option_map}
 use Rattle.std.specs.Prelude.{IfSome, None, Option, Some}
 use Rattle.art_cell.specs.declared.cells.Cell.{Cell}
-use Rattle.art_cell.specs.declared.layouts.Pool.{Pool}
+use Rattle.art_cell.specs.declared.cells.Pool.{Pool}
 use Rattle.art_key.specs.declared.columns.Column.{Column}
 use Rattle.art_step.specs.declared.deeds.Deed.{Deed}
 use Rattle.art_step.specs.declared.views.Event.{Event}

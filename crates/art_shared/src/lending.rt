@@ -1,4 +1,4 @@
-//! A pass is lent to its table.
+//! A pass is lent to its table, and makes its steps there.
 ghost use Rattle.std.specs.Prelude.{◌≡◌, ◌<◌};
 ghost use Rattle.art_shared.specs.Stepper.{basis_of, lender, pass_of};
 ghost use Rattle.art_shared.specs.Tables.{IsPassOf, basis_in, known_to, view_of_pass};

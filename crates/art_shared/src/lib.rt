@@ -94,7 +94,6 @@
 
 mod closing;
 mod ended;
-mod epoch_steps;
 mod first_places;
 mod law;
 mod laws;
@@ -107,7 +106,6 @@ mod shared;
 mod shows;
 mod stepper;
 mod steps;
-mod words;
 
 pub use ended::Ended;
 pub use law::{Basis, Known, Law};

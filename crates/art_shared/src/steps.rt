@@ -1,25 +1,21 @@
-//! The steps of cells, of the pass that is lent.
+//! The steps of the pass that is lent: of cells, and of numbers, epochs and pins.
 ghost use Rattle.art_key.specs.Spelling.{IsKeyOf};
-ghost use Rattle.std.specs.Prelude.{◌≡◌, ◌+◌, ◌<◌};
+ghost use Rattle.std.specs.Prelude.{◌≡◌, ◌+◌, ◌<◌, ◌-◌, ◌^◌, ◌%◌, ◌==◌, bit_and, bit_or};
 ghost use Rattle.art_step.specs.Effects.{released_word};
 ghost use Rattle.art_step.specs.WordPlaces.{word_count};
-ghost use Rattle.art_shared.specs.Stepper.{
-  OnlyStepped,
-  basis_of,
-  instants_of,
-  only_keys,
-  only_same,
-  only_sizes,
-  only_then,
-  sizes_of,
-  view_of,
-};
+ghost use Rattle.art_shared.specs.Stepper.{OnlyStepped, basis_of, instants_of, only_keys, only_same, only_sizes, only_then, sizes_of, view_of};
+ghost use prog.Atomic.{either};
+ghost use Rattle.art_shared.specs.SamePass.{SamePass};
+ghost use Rattle.art_shared.specs.Turns.{MayTurn, Turn};
 
 use crate::stepper::Stepper;
-use art_cell::{Cell, Link, Node};
+use crate::pass::Pass;
+use crate::shared::Shared;
+use crate::shows::{Shows, Told};
+use art_cell::{Cell, Link, Node, Pool};
 use art_step::{
-    Changed, Deed, Held, Locked, Number, Sizes, Stamp, Steps, Unlinked, UpgradeFault, Version,
-    numbers_of, spent,
+    Changed, Deed, EpochSteps, Held, Locked, Number, Sizes, Stamp, Steps, Unlinked, UpgradeFault,
+    Version, numbers_of, spent,
 };
 use std::marker::Brand;
 
@@ -179,5 +175,185 @@ fn changed(stamp: Stamp, found: u64) -> Changed
         cell: stamp.cell,
         seen: stamp.version,
         found,
+    }
+}
+
+impl EpochSteps for Stepper<'_> {
+    fn pool_sizes(&self) -> Sizes {
+        self.shared.sizes()
+    }
+
+    fn own_pass(&self) -> u32 {
+        self.pass.number
+    }
+
+    fn bits_clear(&mut self, pool: Pool, index: u32, bit: Option<u32>) -> u64 {
+        let first = self.shared.first_free_word(pool);
+        let at = word_at(self.shared.basis.sizes, first, index as usize);
+        match bit {
+            None => self
+                .pass
+                .load::<Brand, (Pool, u32)>(self.shared, at, &(pool, index)),
+            Some(bit) => self
+                .pass
+                .mask::<Brand, (Pool, u32, u32)>(
+                    self.shared,
+                    at,
+                    all_but(bit),
+                    &(pool, index, bit),
+                ),
+        }
+    }
+
+    fn bits_set(&mut self, number: Number) {
+        let first = self.shared.first_free_word(number.pool());
+        let index = number.number() as usize / 64;
+        let bit = 1 << (number.number() % 64);
+        let at = word_at(self.shared.basis.sizes, first, index);
+        let freed = number.spend();
+        self.pass
+            .set_bits::<Brand, Link>(self.shared, at, bit, &freed);
+    }
+
+    fn epoch(&mut self) -> u64 {
+        let place = self.shared.epoch_place();
+        self.pass.load::<Brand, ()>(self.shared, place, &())
+    }
+
+    fn pass_store(&mut self, word: u64) {
+        let place = self.shared.pass_place(self.pass.number as usize);
+        self.pass.store::<Brand, ()>(self.shared, place, word, &());
+    }
+
+    fn epoch_add(&mut self) -> u64 {
+        let place = self.shared.sizes().epoch_place();
+        self.pass.add::<Brand, ()>(self.shared, place, 1, &())
+    }
+
+    fn pass_load(&mut self, pass: u32) -> u64 {
+        let place = self.shared.pass_place(pass as usize);
+        self.pass.load::<Brand, u32>(self.shared, place, &pass)
+    }
+}
+
+/// A word with all bits but this one.
+fn all_but(bit: u32) -> u64
+    requires { bit < 64 }
+    ensures { result ≡ 2 ^ 64 - 1 - 2 ^ bit }
+{
+    u64::MAX - (1 << bit)
+}
+
+impl Pass {
+    /// The word at the place is found.
+    pub(crate) fn load<K: Shows, A>(&mut self, shared: &Shared, place: usize, _about: &A) -> u64
+        requires table { self.old.seat.table_id ≡ shared.now.table.shared.table_id }
+        requires basis { self.old.seat.me.0.basis ≡ shared.now.basis }
+        requires place { place < word_count shared.now.basis.sizes }
+        requires may { MayTurn shared.now.basis self.old.seat.me.0 place (λ n. n) K.shown K.happens }
+        ensures same { SamePass self.old self.new }
+        ensures turn { Turn shared.now.basis self.old.seat.me.0 self.new.seat.me.0 (K.happens result) (K.shown result) }
+    {
+        shared.table.shared.load::<Told<K>>(&mut self.seat, place)
+    }
+
+    /// It becomes `new`.
+    pub(crate) fn store<K: Shows, A>(&mut self, shared: &Shared, place: usize, new: u64, _about: &A)
+        requires table { self.old.seat.table_id ≡ shared.now.table.shared.table_id }
+        requires basis { self.old.seat.me.0.basis ≡ shared.now.basis }
+        requires place { place < word_count shared.now.basis.sizes }
+        requires may { MayTurn shared.now.basis self.old.seat.me.0 place (λ _. new) (λ _. K.shown new) (λ _. K.happens new) }
+        ensures same { SamePass self.old self.new }
+        ensures turn { Turn shared.now.basis self.old.seat.me.0 self.new.seat.me.0 (K.happens new) (K.shown new) }
+    {
+        shared
+            .table
+            .shared
+            .store::<Told<K>>(&mut self.seat, place, new);
+    }
+
+    /// It is found, and becomes `new` if it is `old`.
+    pub(crate) fn exchange<K: Shows, A>(
+        &mut self,
+        shared: &Shared,
+        place: usize,
+        old: u64,
+        new: u64,
+        _about: &A,
+    ) -> u64
+        requires table { self.old.seat.table_id ≡ shared.now.table.shared.table_id }
+        requires basis { self.old.seat.me.0.basis ≡ shared.now.basis }
+        requires place { place < word_count shared.now.basis.sizes }
+        requires may { MayTurn shared.now.basis self.old.seat.me.0 place (λ n. either (n == old) new n) K.shown K.happens }
+        ensures same { SamePass self.old self.new }
+        ensures turn { Turn shared.now.basis self.old.seat.me.0 self.new.seat.me.0 (K.happens result) (K.shown result) }
+    {
+        shared
+            .table
+            .shared
+            .compare_exchange::<Told<K>>(&mut self.seat, place, old, new)
+    }
+
+    /// It is found, and goes up.
+    pub(crate) fn add<K: Shows, A>(
+        &mut self,
+        shared: &Shared,
+        place: usize,
+        more: u64,
+        _about: &A,
+    ) -> u64
+        requires table { self.old.seat.table_id ≡ shared.now.table.shared.table_id }
+        requires basis { self.old.seat.me.0.basis ≡ shared.now.basis }
+        requires place { place < word_count shared.now.basis.sizes }
+        requires may { MayTurn shared.now.basis self.old.seat.me.0 place (λ n. (n + more) % 2 ^ 64) K.shown K.happens }
+        ensures same { SamePass self.old self.new }
+        ensures turn { Turn shared.now.basis self.old.seat.me.0 self.new.seat.me.0 (K.happens result) (K.shown result) }
+    {
+        shared
+            .table
+            .shared
+            .fetch_add::<Told<K>>(&mut self.seat, place, more)
+    }
+
+    /// It is found, and keeps the bits of a mask.
+    pub(crate) fn mask<K: Shows, A>(
+        &mut self,
+        shared: &Shared,
+        place: usize,
+        mask: u64,
+        _about: &A,
+    ) -> u64
+        requires table { self.old.seat.table_id ≡ shared.now.table.shared.table_id }
+        requires basis { self.old.seat.me.0.basis ≡ shared.now.basis }
+        requires place { place < word_count shared.now.basis.sizes }
+        requires may { MayTurn shared.now.basis self.old.seat.me.0 place (λ n. bit_and n mask) K.shown K.happens }
+        ensures same { SamePass self.old self.new }
+        ensures turn { Turn shared.now.basis self.old.seat.me.0 self.new.seat.me.0 (K.happens result) (K.shown result) }
+    {
+        shared
+            .table
+            .shared
+            .fetch_and::<Told<K>>(&mut self.seat, place, mask)
+    }
+
+    /// It is found, and gains the bits of another.
+    pub(crate) fn set_bits<K: Shows, A>(
+        &mut self,
+        shared: &Shared,
+        place: usize,
+        bits: u64,
+        _about: &A,
+    ) -> u64
+        requires table { self.old.seat.table_id ≡ shared.now.table.shared.table_id }
+        requires basis { self.old.seat.me.0.basis ≡ shared.now.basis }
+        requires place { place < word_count shared.now.basis.sizes }
+        requires may { MayTurn shared.now.basis self.old.seat.me.0 place (λ n. bit_or n bits) K.shown K.happens }
+        ensures same { SamePass self.old self.new }
+        ensures turn { Turn shared.now.basis self.old.seat.me.0 self.new.seat.me.0 (K.happens result) (K.shown result) }
+    {
+        shared
+            .table
+            .shared
+            .fetch_or::<Told<K>>(&mut self.seat, place, bits)
     }
 }

@@ -3,10 +3,10 @@ use Rattle.std.proofs.Common.{◌≡◌, ◌≢◌, ℕ, ◌+◌, ◌-◌, ◌*�
 use Rattle.std.proofs.lemmas.Bool.{cases_eq, eqb-true, eqb-false}
 use Rattle.art_cell.specs.declared.cells.Link.{Link}
 use Rattle.art_cell.specs.declared.cells.Link.TheVariants.{Leaf as leaf, Node as node}
-use Rattle.art_cell.specs.declared.layouts.Layout.{Layout}
-use Rattle.art_cell.specs.declared.layouts.Layout.TheVariants.{Node4}
-use Rattle.art_cell.specs.declared.layouts.Pool.{Pool}
-use Rattle.art_cell.specs.declared.layouts.Pool.TheVariants.{Leaves}
+use Rattle.art_cell.specs.declared.cells.Layout.{Layout}
+use Rattle.art_cell.specs.declared.cells.Layout.TheVariants.{Node4}
+use Rattle.art_cell.specs.declared.cells.Pool.{Pool}
+use Rattle.art_cell.specs.declared.cells.Pool.TheVariants.{Leaves}
 use Rattle.art_cell.specs.Children.{link_in_pool, number_of}
 use Rattle.art_cell.specs.Lemmas.Headers.{bit_more, bit_more_elsewhere, bit_less, bit_at_least}
 use Rattle.art_step.specs.declared.views.Sizes.{Sizes}

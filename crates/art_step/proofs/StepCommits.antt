@@ -26,7 +26,7 @@ use Rattle.art_step.specs.Views.{HaveForms, IsNotHeld, SetsView}
 use Rattle.art_step.specs.Steps.Commit.{Knows, AllNew, IsLinked, Commits, AreStanding, retired, all_retired}
 use Rattle.art_step.specs.Steps.Release.{Drops}
 use Rattle.art_step.specs.Steps.Give.{HandsOver}
-use Rattle.art_cell.specs.declared.layouts.Pool.{Pool}
+use Rattle.art_cell.specs.declared.cells.Pool.{Pool}
 use Rattle.art_step.proofs.Gathered.{key_member}
 use Rattle.art_step.specs.Views.{IsOnce, Member, Memory, is_free, links_in_limbo, words_in, IsClear, IsLocked, IsObsolete, IsVersion, cell_named, Views, SetsView}
 use Rattle.art_step.proofs.Facts.{SameLeafWords, holds_on}

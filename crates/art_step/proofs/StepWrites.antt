@@ -21,7 +21,7 @@ use Rattle.art_step.specs.Steps.Write as write
 use Rattle.art_step.specs.Effects.{SetsWord}
 use Rattle.art_step.specs.Steps.Write.{Puts, with_word, with_leaf_word}
 use Rattle.art_tree.specs.Tree.{StandsAt}
-use Rattle.art_cell.specs.declared.layouts.Pool.{Pool}
+use Rattle.art_cell.specs.declared.cells.Pool.{Pool}
 use Rattle.art_step.specs.Views.{IsWordOf, IsOnce, Member, Memory, is_free, links_in_hand, words_in, IsLocked, IsObsolete, Views, SetsView}
 use Rattle.art_tree.specs.WordChanges.{SameByWords}
 use Rattle.art_cell.specs.Words.{Words}

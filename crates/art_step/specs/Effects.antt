@@ -1,7 +1,7 @@
 -- What a step does to the words that all passes share, at the one instant at which it is made: m and f are the words and views
 -- before it, m' and f' those after it.
 use Rattle.std.specs.Prelude.{ℕ, ◌≡◌, ◌≢◌, Bool, ◌+◌, ◌^◌, if◌then◌else◌}
-use Rattle.art_cell.specs.declared.layouts.Pool.{Pool}
+use Rattle.art_cell.specs.declared.cells.Pool.{Pool}
 use Rattle.art_cell.specs.declared.cells.Cell.TheVariants as cell
 use Rattle.art_cell.specs.declared.cells.Cell.{Cell}
 use Rattle.art_cell.specs.declared.cells.Link.{Link}

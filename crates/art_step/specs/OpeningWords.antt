@@ -1,7 +1,7 @@
 -- The words of a world at its opening, place by place.
 use Rattle.std.specs.Prelude.{ℕ, ◌+◌, ◌-◌, ◌*◌, ◌%◌, ◌^◌, ◌==◌, List, map, nat_lt, if◌then◌else◌}
 use Rattle.std.specs.List.{range_with_len}
-use Rattle.art_cell.specs.declared.layouts.Pool.TheVariants.{Leaves, N4, N16, N48, N256}
+use Rattle.art_cell.specs.declared.cells.Pool.TheVariants.{Leaves, N4, N16, N48, N256}
 use Rattle.art_step.specs.declared.views.Sizes.{Sizes}
 use Rattle.art_step.specs.WordPlaces.{cells_end, epoch_place, first_cell, first_free_word, free_words_end, word_count}
 

@@ -131,7 +131,6 @@
 #![tactic(auto)]
 
 mod deeds;
-mod epoch_steps;
 mod faults;
 mod held;
 mod numbers;
@@ -144,7 +143,6 @@ mod views;
 mod word_places;
 
 pub use deeds::{Act, Deed};
-pub use epoch_steps::EpochSteps;
 pub use faults::{Changed, Locked, UpgradeFault};
 pub use held::Held;
 pub use numbers::{Number, Unlinked, numbers_of, spent};
@@ -157,7 +155,7 @@ pub use step_laws::{
     reading_is_sound, releasing_is_sound, stepping_is_sound, steps_keep_their_pass,
     taking_is_sound, upgrading_is_sound, watching_is_sound, writing_is_sound,
 };
-pub use steps::Steps;
+pub use steps::{EpochSteps, Steps};
 pub use versions::Version;
 pub use views::{
     EpochSeen, Event, Fact, Found, Holding, InHand, LastCheck, Note, Pin, Retired, Sizes, Stamp,

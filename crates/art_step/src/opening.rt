@@ -3,7 +3,7 @@ ghost use Rattle.std.specs.Prelude.{◌≡◌, ◌*◌, ◌+◌, ◌<◌, ◌≤
 ghost use Rattle.art_step.specs.OpeningWords.{first_bits, opening_free_word, opening_node_word, opening_word, opening_words, version_or_zero};
 ghost use Rattle.art_step.specs.Views.{last_counter};
 ghost use Rattle.art_step.specs.WordPlaces.{cells_end, first_cell, first_free_word, free_words_end};
-ghost use Rattle.art_cell.specs.declared.layouts.Pool.TheVariants.{Leaves as leaf_pool, N4 as n4_pool};
+ghost use Rattle.art_cell.specs.declared.cells.Pool.TheVariants.{Leaves as leaf_pool, N4 as n4_pool};
 
 use crate::{Sizes, pool_of_layout};
 use art_cell::Pool;

@@ -1,7 +1,7 @@
 //! Where the words of a world stand: the anchor's, the leaves', the nodes' layout by layout, the words of free numbers pool
 //! by pool, the epoch, and the words of the passes. Each of those that passes write often has cache lines of its own.
 ghost use Rattle.std.specs.Prelude.{◌≡◌, ◌+◌, ◌*◌, ◌<◌, ◌≤◌};
-ghost use Rattle.art_cell.specs.declared.layouts.Pool.TheVariants.{Leaves as leaf_pool, N4 as n4_pool};
+ghost use Rattle.art_cell.specs.declared.cells.Pool.TheVariants.{Leaves as leaf_pool, N4 as n4_pool};
 ghost use Rattle.art_cell.specs.Words.{size};
 ghost use Rattle.art_step.specs.Views.{pool_of_layout};
 ghost use Rattle.art_step.specs.WordPlaces.{cells_end, epoch_place, first_cell, first_free_word, free_words, free_words_end, pass_place, place_of, pool_size, word_count};

@@ -4,8 +4,8 @@ use Rattle.std.proofs.lemmas.List.Elements.{All-head, All-tail}
 use Rattle.std.proofs.lemmas.List.Sums.{sum_by-cons}
 use Rattle.std.proofs.lemmas.Option.{same_Some}
 use Rattle.std.specs.List.{slice_get}
-use Rattle.art_cell.specs.declared.layouts.Pool.{Pool}
-use Rattle.art_cell.specs.declared.layouts.Pool.TheVariants as pool
+use Rattle.art_cell.specs.declared.cells.Pool.{Pool}
+use Rattle.art_cell.specs.declared.cells.Pool.TheVariants as pool
 use Rattle.art_closed.proofs.Members.{map_member, member_map}
 use Rattle.art_closed.proofs.Spelled.{maps_spell_one_list}
 use Rattle.art_closed.proofs.Waiting.{limbos_add_up}

@@ -1,8 +1,8 @@
 -- What closing a table gives.
 use Rattle.std.specs.Prelude.{◌≡◌, ℕ, ◌+◌, ◌<◌, List, [], ◌∷◌, ◌==◌, if◌then◌else◌, length, map}
 use Rattle.std.specs.List.{sum_by}
-use Rattle.art_cell.specs.declared.layouts.Pool.{Pool}
-use Rattle.art_cell.specs.declared.layouts.Pool.TheVariants as pool
+use Rattle.art_cell.specs.declared.cells.Pool.{Pool}
+use Rattle.art_cell.specs.declared.cells.Pool.TheVariants as pool
 use Rattle.art_closed.specs.Counts.{IsCounted, waiting_among}
 use Rattle.art_closed.specs.declared.counts.PoolCount.{PoolCount}
 use Rattle.art_epoch.specs.Limbo.{places_of}

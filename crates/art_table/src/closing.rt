@@ -1,7 +1,7 @@
 //! Closing a table: its rows, and what became of its numbers.
 ghost use Rattle.std.specs.Prelude.{◌≡◌, ◌↔◌, ◌<◌, ◌≤◌, [], ℕ, IfErr, IfOk, IsTrue, OnOk, Some, length, vec_capacity};
 ghost use Rattle.std.specs.List.{slice_get};
-ghost use Rattle.art_cell.specs.declared.layouts.Pool.{Pool as PoolOf};
+ghost use Rattle.art_cell.specs.declared.cells.Pool.{Pool as PoolOf};
 ghost use Rattle.art_table.specs.Closing.{AreAllPasses, Explains, IsClosed, IsHere, limbos_of, seats_of, waits};
 ghost use Rattle.art_table.specs.Tables.{AreOf, number_of, sizes_in};
 ghost use Rattle.art_closed.specs.Counts.{waiting_in_all};

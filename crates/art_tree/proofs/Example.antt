@@ -5,8 +5,8 @@ use Rattle.std.specs.FinMap.{insert, remove, empty}
 use Rattle.art_cell.specs.declared.cells.Node.{Node}
 use Rattle.art_cell.specs.declared.cells.Link.{Link}
 use Rattle.art_cell.specs.declared.cells.Link.TheVariants.{Leaf as leaf, Node as node}
-use Rattle.art_cell.specs.declared.layouts.Layout.{Layout}
-use Rattle.art_cell.specs.declared.layouts.Layout.TheVariants.{Node4, Node16, Node48, Node256}
+use Rattle.art_cell.specs.declared.cells.Layout.{Layout}
+use Rattle.art_cell.specs.declared.cells.Layout.TheVariants.{Node4, Node16, Node48, Node256}
 use Rattle.art_tree.specs.Tree.{Place, Top, Slot, Heap, child_at_place, StandsAt, top, down, PlaceAt, Begins, HasTwo}
 use Rattle.art_tree.specs.Rows.{ByteMap, HasRows}
 use Rattle.art_tree.specs.Changes.{IsUnlinked, SameLeaves, NamedOnlyAt, Edits, GivesWay, Moves}

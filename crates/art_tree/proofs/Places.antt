@@ -6,8 +6,8 @@ use Rattle.art_cell.specs.declared.cells.Cell.{Cell}
 use Rattle.art_cell.specs.declared.cells.Cell.TheVariants as cell
 use Rattle.art_cell.specs.declared.cells.Link.{Link}
 use Rattle.art_cell.specs.declared.cells.Link.TheVariants.{Leaf as leaf, Node as node}
-use Rattle.art_cell.specs.declared.layouts.Layout.{Layout}
-use Rattle.art_cell.specs.declared.layouts.Layout.TheVariants.{Node4, Node16, Node48, Node256}
+use Rattle.art_cell.specs.declared.cells.Layout.{Layout}
+use Rattle.art_cell.specs.declared.cells.Layout.TheVariants.{Node4, Node16, Node48, Node256}
 use Rattle.art_tree.specs.Tree.{Place, Top, Slot, Heap, child_at_place, path_past, StandsAt, top, down, PathBy, PlaceAt, NamesOnce}
 
 -- what holds of the child of each place, where it holds of the node of the place, holds of each linked cell

@@ -1,7 +1,7 @@
 -- What the words of all cells mean: a heap.
 use Rattle.std.specs.Prelude.{◌≡◌, ℕ, ◌<◌, ◌≤◌, List, [], nat_lt, if◌then◌else◌, Option, None}
 use Rattle.std.specs.Option.{option_and_then}
-use Rattle.art_cell.specs.declared.layouts.Layout.{Layout}
+use Rattle.art_cell.specs.declared.cells.Layout.{Layout}
 use Rattle.art_cell.specs.declared.cells.Node.{Node}
 use Rattle.art_cell.specs.declared.cells.Link.{Link}
 use Rattle.art_cell.specs.declared.cells.Cell.{Cell}

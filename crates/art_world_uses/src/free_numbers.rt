@@ -1,5 +1,5 @@
 //! Numbers of a pool with more than one free word, and what opens.
-ghost use Rattle.art_cell.specs.declared.layouts.Pool.TheVariants.{N4};
+ghost use Rattle.art_cell.specs.declared.cells.Pool.TheVariants.{N4};
 ghost use Rattle.art_step.specs.WordPlaces.{HasFreeWord};
 
 use crate::worlds::opened;

@@ -1,11 +1,11 @@
 -- What an insert needs, by where its key stands.
 use Rattle.std.specs.Prelude.{◌%◌, ◌==◌, if◌then◌else◌, Some, None, true, false}
 use Rattle.art_cell.specs.Words.{places}
-use Rattle.art_cell.specs.declared.layouts.Layout.{Layout}
-use Rattle.art_cell.specs.declared.layouts.Layout.TheVariants.{Node4, Node256}
-use Rattle.art_plan.specs.declared.choose_insert.needs.Needs.{Needs}
-use Rattle.art_find.specs.declared.verdicts.Verdict.{Verdict}
-use Rattle.art_find.specs.declared.verdicts.Verdict.TheVariants.{LeafMismatch, PrefixMismatch, NoChild}
+use Rattle.art_cell.specs.declared.cells.Layout.{Layout}
+use Rattle.art_cell.specs.declared.cells.Layout.TheVariants.{Node4, Node256}
+use Rattle.art_plan.specs.declared.choose_insert.Needs.{Needs}
+use Rattle.art_find.specs.declared.descents.Verdict.{Verdict}
+use Rattle.art_find.specs.declared.descents.Verdict.TheVariants.{LeafMismatch, PrefixMismatch, NoChild}
 use Rattle.art_node.specs.Sizes.{larger}
 
 -- no node, and nothing above is written

@@ -1,14 +1,14 @@
 -- What the plan of an insert is, by where its key stands.
 use Rattle.std.specs.Prelude.{◌≡◌, ◌≢◌, ◌⊎◌, ℕ, true, Option, Some, ⊤, List, [], ◌∷◌, if◌then◌else◌}
 use Rattle.art_cell.specs.declared.cells.Cell.TheVariants as cell
-use Rattle.art_cell.specs.declared.layouts.Layout.{Layout}
+use Rattle.art_cell.specs.declared.cells.Layout.{Layout}
 use Rattle.art_plan.specs.ArtCommit.CommitLaws.{HasNode}
 use Rattle.art_plan.specs.ChooseInsert.Needs.{needs_of}
 use Rattle.art_plan.specs.ChooseInsert.Seen.{IsSeen}
-use Rattle.art_find.specs.declared.verdicts.Verdict.{Verdict}
-use Rattle.art_find.specs.declared.verdicts.Verdict.TheVariants.{Empty, LeafMismatch, PrefixMismatch, NoChild}
+use Rattle.art_find.specs.declared.descents.Verdict.{Verdict}
+use Rattle.art_find.specs.declared.descents.Verdict.TheVariants.{Empty, LeafMismatch, PrefixMismatch, NoChild}
 use Rattle.art_plan.specs.Insert.Cases.{IsInHand}
-use Rattle.art_plan.specs.declared.insert.leaves.NewLeaf.{NewLeaf}
+use Rattle.art_plan.specs.declared.insert.NewLeaf.{NewLeaf}
 use Rattle.art_find.specs.Findings.{IsStanding}
 use Rattle.art_find.specs.ReadSets.{above_of, node_of}
 use Rattle.art_find.specs.declared.read_sets.ReadSet.{ReadSet}

@@ -3,10 +3,10 @@ use Rattle.std.specs.Prelude.{ℕ, ◌+◌, ◌%◌, unwrap_or, nat_lt, if◌the
 use Rattle.art_cell.specs.Reads.{word_read}
 use Rattle.art_cell.specs.declared.cells.Cell.{Cell}
 use Rattle.art_cell.specs.declared.cells.Cell.TheVariants as cell
-use Rattle.art_cell.specs.declared.layouts.Layout.{Layout}
-use Rattle.art_cell.specs.declared.layouts.Layout.TheVariants.{Node4, Node16, Node48, Node256}
-use Rattle.art_plan.specs.declared.choose_remove.losses.Loss.{Loss}
-use Rattle.art_plan.specs.declared.choose_remove.losses.Loss.TheVariants.{Leaf, Merges, Shrinks}
+use Rattle.art_cell.specs.declared.cells.Layout.{Layout}
+use Rattle.art_cell.specs.declared.cells.Layout.TheVariants.{Node4, Node16, Node48, Node256}
+use Rattle.art_plan.specs.declared.choose_remove.Loss.{Loss}
+use Rattle.art_plan.specs.declared.choose_remove.Loss.TheVariants.{Leaf, Merges, Shrinks}
 use Rattle.art_node.specs.Sizes.{smaller}
 use Rattle.art_plan.specs.ArtFind.ReadSets.{node_of}
 use Rattle.art_plan.specs.ArtFind.declared.read_sets.ReadSet.{ReadSet}

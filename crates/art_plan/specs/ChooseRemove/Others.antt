@@ -5,7 +5,7 @@ use Rattle.art_cell.specs.Children.{link_of}
 use Rattle.art_cell.specs.Reads.{Agrees, IsLeastFrom, NoneFrom, word_read}
 use Rattle.art_cell.specs.Words.{Words, first_child, size}
 use Rattle.art_cell.specs.declared.cells.Link.{Link}
-use Rattle.art_cell.specs.declared.layouts.Layout.{Layout}
+use Rattle.art_cell.specs.declared.cells.Layout.{Layout}
 use Rattle.art_cell.specs.declared.node_kinds.Entry.{Entry}
 use Rattle.art_plan.specs.ArtFind.ReadSets.{node_of}
 use Rattle.art_plan.specs.ArtFind.Findings.{IsStanding}

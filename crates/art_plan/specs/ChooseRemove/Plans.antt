@@ -3,20 +3,20 @@ use Rattle.std.specs.Prelude.{◌≡◌, ◌⊎◌, ℕ, ◌-◌, List, get_or, 
 use Rattle.art_cell.specs.Children.{child_word}
 use Rattle.art_cell.specs.Reads.{Agrees}
 use Rattle.art_cell.specs.Words.{Words, prefix_of}
-use Rattle.art_cell.specs.declared.bodies.Body.{Body}
+use Rattle.art_cell.specs.declared.cells.Body.{Body}
 use Rattle.art_cell.specs.declared.cells.Cell.TheVariants as cell
 use Rattle.art_cell.specs.declared.cells.Link.{Link}
 use Rattle.art_cell.specs.declared.cells.Link.TheVariants.{Leaf as leaf, Node as node}
 use Rattle.art_cell.specs.declared.cells.Node.{Node}
-use Rattle.art_cell.specs.declared.layouts.Layout.{Layout}
+use Rattle.art_cell.specs.declared.cells.Layout.{Layout}
 use Rattle.art_plan.specs.ChooseRemove.Losses.{loss_at}
 use Rattle.art_plan.specs.ChooseRemove.Seen.{AreSeen, IsSeen, StillKnown}
-use Rattle.art_plan.specs.declared.choose_remove.losses.Loss.TheVariants.{Shrinks}
-use Rattle.art_plan.specs.declared.choose_remove.lowers.Lower.{Lower}
+use Rattle.art_plan.specs.declared.choose_remove.Loss.TheVariants.{Shrinks}
+use Rattle.art_plan.specs.declared.choose_remove.Lower.{Lower}
 use Rattle.art_plan.specs.ArtCommit.CommitLaws.{HasNode}
 use Rattle.art_plan.specs.ChooseInsert.Bodies.{HasWords}
 use Rattle.art_plan.specs.ChooseInsert.Plans.{WasReadOf}
-use Rattle.art_plan.specs.ArtFind.declared.verdicts.Verdict.TheVariants.{Found}
+use Rattle.art_plan.specs.ArtFind.declared.descents.Verdict.TheVariants.{Found}
 use Rattle.art_path.specs.declared.prefixes.Parts.{Parts}
 use Rattle.art_plan.specs.ArtFind.ReadSets.{node_of}
 use Rattle.art_plan.specs.ArtFind.Findings.{IsStanding}
@@ -26,7 +26,7 @@ use Rattle.art_plan.specs.ArtFind.declared.findings.Position.{Position}
 use Rattle.art_plan.specs.Changes.{IsPlanned}
 use Rattle.art_plan.specs.declared.changes.Change.{Change}
 use Rattle.art_plan.specs.Remove.Removals.{HasPair, IsTooLong}
-use Rattle.art_plan.specs.declared.remove.leaves.OldLeaf.{OldLeaf}
+use Rattle.art_plan.specs.declared.remove.OldLeaf.{OldLeaf}
 use Rattle.art_step.specs.declared.views.Sizes.{Sizes}
 use Rattle.art_step.specs.declared.views.Stamp.{Stamp}
 use Rattle.art_step.specs.declared.views.View.{View}

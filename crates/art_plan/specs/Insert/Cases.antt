@@ -6,11 +6,11 @@ use Rattle.art_cell.specs.declared.cells.Link.TheVariants.{Leaf as leaf}
 use Rattle.art_cell.specs.declared.cells.Node.{Node}
 use Rattle.art_commit.specs.CommitLaws.{HasLeaf, HasNode}
 use Rattle.art_plan.specs.Insert.Puts.{node4}
-use Rattle.art_plan.specs.declared.insert.leaves.NewLeaf.{NewLeaf}
-use Rattle.art_plan.specs.declared.insert.leaves.Parting.{Parting}
+use Rattle.art_plan.specs.declared.insert.NewLeaf.{NewLeaf}
+use Rattle.art_plan.specs.declared.insert.Parting.{Parting}
 use Rattle.art_plan.specs.Seen.{HasBelow, SiteFits, site_stamp}
-use Rattle.art_plan.specs.declared.parts.Below.{Below}
-use Rattle.art_plan.specs.declared.sites.Site.{Site}
+use Rattle.art_plan.specs.declared.changes.Below.{Below}
+use Rattle.art_plan.specs.declared.changes.Site.{Site}
 use Rattle.art_step.specs.Shows.{Shows}
 use Rattle.art_step.specs.Views.{IsNumber}
 use Rattle.art_step.specs.declared.views.Sizes.{Sizes}

@@ -1,9 +1,9 @@
 -- The node that an insert makes, and what it does.
 use Rattle.std.specs.Prelude.{ℕ, List, Some}
-use Rattle.art_cell.specs.declared.bodies.Body.{Body}
+use Rattle.art_cell.specs.declared.cells.Body.{Body}
 use Rattle.art_cell.specs.declared.cells.Node.{Node}
-use Rattle.art_cell.specs.declared.layouts.Layout.TheVariants.{Node4}
-use Rattle.art_plan.specs.declared.insert.leaves.NewLeaf.{NewLeaf}
+use Rattle.art_cell.specs.declared.cells.Layout.TheVariants.{Node4}
+use Rattle.art_plan.specs.declared.insert.NewLeaf.{NewLeaf}
 use Rattle.art_model.specs.declared.commands.Answer.TheVariants.{Inserted}
 use Rattle.art_node.specs.Sizes.{larger}
 use Rattle.art_step.specs.declared.deeds.Act.TheVariants.{Insert}

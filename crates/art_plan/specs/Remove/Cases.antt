@@ -9,10 +9,10 @@ use Rattle.art_cell.specs.declared.cells.Node.{Node}
 use Rattle.art_commit.specs.CommitLaws.{HasNode}
 use Rattle.art_path.specs.declared.prefixes.Parts.{Parts}
 use Rattle.art_plan.specs.Seen.{HasBelow, IsReadWhole, SiteFits, site_stamp}
-use Rattle.art_plan.specs.declared.parts.Below.{Below}
-use Rattle.art_plan.specs.declared.sites.Site.{Site}
+use Rattle.art_plan.specs.declared.changes.Below.{Below}
+use Rattle.art_plan.specs.declared.changes.Site.{Site}
 use Rattle.art_plan.specs.Remove.Removals.{HasPair}
-use Rattle.art_plan.specs.declared.remove.leaves.OldLeaf.{OldLeaf}
+use Rattle.art_plan.specs.declared.remove.OldLeaf.{OldLeaf}
 use Rattle.art_step.specs.Shows.{Shows}
 use Rattle.art_step.specs.declared.views.Sizes.{Sizes}
 use Rattle.art_step.specs.declared.views.Stamp.{Stamp}

@@ -4,7 +4,7 @@ use Rattle.std.specs.Prelude.{List, ℕ, length, ◌≡◌, ◌+◌, ◌-◌, �
 use Rattle.art_cell.specs.declared.cells.Cell.TheVariants as cell
 use Rattle.art_cell.specs.declared.cells.Link.TheVariants.{Leaf as leaf, Node as node}
 use Rattle.art_cell.specs.declared.cells.Link.{Link}
-use Rattle.art_cell.specs.declared.layouts.Pool.{Pool}
+use Rattle.art_cell.specs.declared.cells.Pool.{Pool}
 use Rattle.art_step.specs.Effects.{SetsFreeWord}
 use Rattle.art_step.specs.Sound.{KeepsSound}
 use Rattle.art_step.specs.Views.{IsNumber, Memory, words_in, Views, SetsView, bit_of, number_at, pool_rank}

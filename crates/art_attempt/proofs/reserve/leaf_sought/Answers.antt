@@ -1,6 +1,6 @@
 use Rattle.std.proofs.Common.{◌∙◌, ℕ, refl, sym, ap, subst, arith, inl}
 use Rattle.art_cell.specs.Children.{number_of}
-use Rattle.art_cell.specs.declared.layouts.Pool.TheVariants.{Leaves as leaves}
+use Rattle.art_cell.specs.declared.cells.Pool.TheVariants.{Leaves as leaves}
 use Rattle.art_attempt.proofs.Reserves.{leaf_few, leaf_soon, none_sought, sought_leaf, sought_none, sought_on, takes_none, takes_some}
 use Rattle.art_attempt.proofs.reserve.leaf_sought.Goals as goal
 use Rattle.art_attempt.specs.Reserve.{Fits}

@@ -1,4 +1,4 @@
-use Rattle.art_cell.specs.declared.layouts.Pool.TheVariants.{Leaves as leaves}
+use Rattle.art_cell.specs.declared.cells.Pool.TheVariants.{Leaves as leaves}
 use Rattle.art_attempt.proofs.Reserves.{told_sought}
 use Rattle.art_attempt.proofs.reserve.leaf_told.Goals as goal
 

@@ -1,7 +1,7 @@
 use Rattle.std.proofs.Common.{◌≡◌, ◌∙◌, ℕ, Some, refl, sym, ap, subst, inr}
 use Rattle.std.proofs.lemmas.Option.{same_Some}
 use Rattle.art_cell.specs.Children.{number_of}
-use Rattle.art_cell.specs.declared.layouts.Layout.{Layout}
+use Rattle.art_cell.specs.declared.cells.Layout.{Layout}
 use Rattle.art_epoch.proofs.Stocked.{taken_node}
 use Rattle.art_epoch.specs.Stocks.{node_in, with_node}
 use Rattle.art_epoch.specs.declared.stocks.Stock.{Stock}
@@ -11,7 +11,7 @@ use Rattle.art_attempt.specs.Reserve.{Fits}
 use Rattle.art_attempt.specs.declared.reserve.Reserved.TheVariants.{Ready, Full}
 use Rattle.art_attempt.specs.declared.reserve.Reserve.TheVariants.{Ended}
 use Rattle.art_step.specs.Views.{pool_of_layout}
-use Rattle.art_cell.specs.declared.layouts.Pool.{Pool}
+use Rattle.art_cell.specs.declared.cells.Pool.{Pool}
 
 pub returns-in-Some-clause-fits : goal.returns-in-Some-clause-fits
 returns-in-Some-clause-fits c z demand k value u v sizes want none words sought =
@@ -63,4 +63,4 @@ returns-clause-fits c z demand k value u v sizes want none words sought =
       };
     } in
     subst (λ (t : Stock). Fits z demand k value (Ended Ready) t u v)
-    (sym (c.add_node.ensures ∙ ap (λ (i : ℕ). with_node (record { layout = layout; number = i }) s) c.number_of-number.ensures)) fits
+    (sym (c.add_node.ensures.node ∙ ap (λ (i : ℕ). with_node (record { layout = layout; number = i }) s) c.number_of-number.ensures)) fits

@@ -1,6 +1,6 @@
 use Rattle.std.proofs.Common.{◌≡◌, ◌∙◌, None, sym, subst}
 use Rattle.std.proofs.lemmas.Option.{same_Some}
-use Rattle.art_cell.specs.declared.layouts.Layout.{Layout}
+use Rattle.art_cell.specs.declared.cells.Layout.{Layout}
 use Rattle.art_epoch.specs.Stocks.{node_in}
 use Rattle.art_attempt.specs.Reserve.{IsSought}
 use Rattle.art_step.specs.Views.{pool_of_layout}

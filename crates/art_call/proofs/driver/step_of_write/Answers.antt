@@ -5,7 +5,7 @@ use Rattle.arrayvec.specs.ArrayVec.{ArrayVec}
 use Rattle.art_call.proofs.driver.step_of_write.Goals as goal
 use Rattle.art_call.specs.AsAsked.{WriteMakes}
 use Rattle.art_call.specs.Made.{MakesStep}
-use Rattle.art_change.specs.ArtAttempt.declared.rooms.Room.{Room}
+use Rattle.art_change.specs.ArtAttempt.declared.attempts.Room.{Room}
 use Rattle.art_change.proofs.Overlaps.{none_overlaps, still_apart}
 use Rattle.art_change.specs.Writes.{SameRow}
 use Rattle.art_change.specs.Writes as writes

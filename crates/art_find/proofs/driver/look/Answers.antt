@@ -1,5 +1,5 @@
 -- A look that settles nothing needs no effects.
-use Rattle.std.specs.Prelude.{None, ⊤}
+use Rattle.std.specs.Prelude.{⊤}
 use Rattle.art_machine.proofs.AnswerKinds.{answers_any}
 use Rattle.art_machine.specs.Acting.{telling}
 use Rattle.art_find.proofs.Looks.{allowed_look}

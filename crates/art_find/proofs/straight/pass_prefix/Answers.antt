@@ -1,5 +1,6 @@
 use Rattle.std.proofs.Common.{◌≡◌, ◌+◌, ◌-◌, ◌<◌, ℕ, List, Option, Some, None, length, refl, sym, ap, subst, arith}
 use Rattle.std.specs.Prelude.{IfSome}
+use Rattle.art_machine.specs.Acting.{IsAllowed}
 use Rattle.art_find.specs.Descents.{StageFits, asks}
 use Rattle.art_find.specs.Driven.{get_done}
 use Rattle.art_find.specs.Straight.{GetGoes, GoesOn, at_search, come_to}
@@ -50,8 +51,8 @@ returns-in_default g c =
       goes = λ turns u before. come_of z k u v turns l.tally c.search_at.result l.descent c.search_at.ensures (i.goes turns u before);
     }
 
-pub read-word-requires-clause-may : goal.read-word-requires-clause-may
-read-word-requires-clause-may g c =
+pub read_word-word-requires : goal.read_word-word-requires
+read_word-word-requires g c =
     let l = c.loop-descent in
     let z = g.S.Steps.sizes l.steps in
     let v = g.S.Steps.view l.steps in
@@ -60,7 +61,9 @@ read-word-requires-clause-may g c =
     let seen = c.in-Prefix.seen in
     let at : Stage = Prefix seen c.in-Prefix.number c.in-Prefix.before in
     let fits = subst (λ (s : Stage). StageFits z k (get_done k) l.descent.depth s b.1 v) c.in-Prefix.is b.2.get.fits in
-    subst (λ (i : ℕ). read.May v seen.stamp (2 + i)) (sym c.from.ensures) ((allowed z k (get_done k) l.descent.depth at b.1 v fits).1)
+    record {
+      allowed = subst (λ (i : ℕ). IsAllowed z None v (Read seen.stamp (2 + i))) (sym c.from.ensures) (allowed z k (get_done k) l.descent.depth at b.1 v fits);
+    }
 
 pub loop-descent-preserved : goal.loop-descent-preserved
 loop-descent-preserved g c =
@@ -68,24 +71,24 @@ loop-descent-preserved g c =
     let i = l.invariant in
     let z = g.S.Steps.sizes l.steps in
     let v = g.S.Steps.view l.steps in
-    let z' = g.S.Steps.sizes c.read-word.new.self in
-    let w = g.S.Steps.view c.read-word.new.self in
+    let z' = g.S.Steps.sizes c.read_word-word.new.steps in
+    let w = g.S.Steps.view c.read_word-word.new.steps in
     let k = c.args.key.now in
     let m = l.descent in
     let m' = c.read.new.self in
     let number = c.in-Prefix.number in
     let x = c.in-Prefix.seen.stamp in
-    let word = c.read-word.result in
+    let word = c.read_word-word.result in
     let is : asks m.stage ≡ Some (Read x (2 + number)) = ap asks c.in-Prefix.is in
-    let row = subst (λ (p : ℕ). read.Outcome z v w x (2 + p) word) c.from.ensures c.read-word.ensures.row in
+    let row = subst (λ (p : ℕ). read.Outcome z v w x (2 + p) word) c.from.ensures c.read_word-word.ensures.row in
     let after : Tally = record { left = l.tally.left - 1; restarts = l.tally.restarts } in
     let next : GoesOn k z v m l.tally z' w m' after = λ turns u before.
-    went_on z z' (g.met.S.Steps.only_sizes l.steps c.read-word.new.self c.read-word.ensures.only) k turns u v w m m' l.tally after
+    went_on z z' (g.met.S.Steps.only_sizes l.steps c.read_word-word.new.steps c.read_word-word.ensures.only) k turns u v w m m' l.tally after
     (Read x (2 + number)) (word_told word) before is row (omega (arith, i.left)) refl refl c.read.ensures.steps c.read.ensures.going
     (c.read.ensures.fits z (get_done k) u v w (Read x (2 + number)) before.get.fits is row) in
     let b = i.going in
     record {
-      only = g.met.S.Steps.only_then c.args.steps.now l.steps c.read-word.new.self i.only c.read-word.ensures.only;
+      only = g.met.S.Steps.only_then c.args.steps.now l.steps c.read_word-word.new.steps i.only c.read_word-word.ensures.only;
       left = omega (arith, c.if-tally-lt5.false);
       less = omega (arith, i.less);
       going = (b.0, b.1, next b.0 b.1 b.2);

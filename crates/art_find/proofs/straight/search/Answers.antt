@@ -28,14 +28,14 @@ read-requires-clause-fits g c =
 pub pass_prefix-requires-clause-goes : goal.pass_prefix-requires-clause-goes
 pass_prefix-requires-clause-goes g c =
     let z = g.S.Steps.sizes c.args.steps.now in
-    let w = g.S.Steps.view c.read-header.new.self in
+    let w = g.S.Steps.view c.read_word-header.new.steps in
     let b = c.requires.goes in
     let m = at_stage c.args.depth (Header c.args.stamp c.args.node) in
-    let row = c.read-header.ensures.row in (
+    let row = c.read_word-header.ensures.row in (
       b.0,
       b.1,
-      went_on z (g.S.Steps.sizes c.read-header.new.self) (g.met.S.Steps.only_sizes c.args.steps.now c.read-header.new.self c.read-header.ensures.only) c.args.key.now b.0 b.1
-          (g.S.Steps.view c.args.steps.now) w m c.read.new.self c.args.tally.now _ (Read c.args.stamp 1) (word_told c.read-header.result) b.2 refl row (omega (arith, c.requires.left)) refl refl
+      went_on z (g.S.Steps.sizes c.read_word-header.new.steps) (g.met.S.Steps.only_sizes c.args.steps.now c.read_word-header.new.steps c.read_word-header.ensures.only) c.args.key.now b.0 b.1
+          (g.S.Steps.view c.args.steps.now) w m c.read.new.self c.args.tally.now _ (Read c.args.stamp 1) (word_told c.read_word-header.result) b.2 refl row (omega (arith, c.requires.left)) refl refl
           c.read.ensures.steps c.read.ensures.going
           (c.read.ensures.fits z (get_done c.args.key.now) b.1 (g.S.Steps.view c.args.steps.now) w (Read c.args.stamp 1) b.2.get.fits refl row),
     )
@@ -44,29 +44,29 @@ pub returns-then-read_header-gt0-clause-goes : goal.returns-then-read_header-gt0
 returns-then-read_header-gt0-clause-goes g c = λ turns u before.
     let z = g.S.Steps.sizes c.args.steps.now in
     let v = g.S.Steps.view c.args.steps.now in
-    let w = g.S.Steps.view c.read-header.new.self in
+    let w = g.S.Steps.view c.read_word-header.new.steps in
     let k = c.args.key.now in
     let depth = c.args.depth in
     let n = c.args.node in
     let y = c.args.stamp in
     let m = c.read.new.self in
     c.pass_prefix.ensures.goes turns u
-    (went_on z (g.S.Steps.sizes c.read-header.new.self) (g.met.S.Steps.only_sizes c.args.steps.now c.read-header.new.self c.read-header.ensures.only) k turns u v w
-    (at_stage depth (Header y n)) m c.args.tally.now _ (Read y 1) (word_told c.read-header.result) before refl c.read-header.ensures.row (omega (arith, c.requires.left)) refl refl
+    (went_on z (g.S.Steps.sizes c.read_word-header.new.steps) (g.met.S.Steps.only_sizes c.args.steps.now c.read_word-header.new.steps c.read_word-header.ensures.only) k turns u v w
+    (at_stage depth (Header y n)) m c.args.tally.now _ (Read y 1) (word_told c.read_word-header.result) before refl c.read_word-header.ensures.row (omega (arith, c.requires.left)) refl refl
     c.read.ensures.steps c.read.ensures.going
-    (c.read.ensures.fits z (get_done k) u v w (Read y 1) before.get.fits refl c.read-header.ensures.row))
+    (c.read.ensures.fits z (get_done k) u v w (Read y 1) before.get.fits refl c.read_word-header.ensures.row))
 
 pub returns-clause-goes : goal.returns-clause-goes
 returns-clause-goes g c = λ turns u before.
     let z = g.S.Steps.sizes c.args.steps.now in
     let v = g.S.Steps.view c.args.steps.now in
-    let w = g.S.Steps.view c.read-header.new.self in
+    let w = g.S.Steps.view c.read_word-header.new.steps in
     let k = c.args.key.now in
     let depth = c.args.depth in
     let n = c.args.node in
     let y = c.args.stamp in
-    let word = c.read-header.result in
-    let row = c.read-header.ensures.row in
+    let word = c.read_word-header.result in
+    let row = c.read_word-header.ensures.row in
     let fits = before.get.fits in
     let seen : NodeSeen = record { stamp = y; node = n; header = word } in
     let deep : depth < length k = c.if-depth-key.false in
@@ -78,15 +78,18 @@ returns-clause-goes g c = λ turns u before.
     let on : HasHeader s n k depth word = record { at = still s shape holds; is_header = there s shape holds } in
     subst (λ (d : ℕ). IsPastPrefix s n k d word) (omega (arith, zero))
     (past_prefix z s n k depth word shape on (omega (arith, deep)) (subst (λ (i : ℕ). AreSame (packed (s (cell.Node n)) 2) i k depth) (sym zero) (same_none (packed (s (cell.Node n)) 2) k depth (omega (arith, deep))))) in
-    went_on z (g.S.Steps.sizes c.read-header.new.self) (g.met.S.Steps.only_sizes c.args.steps.now c.read-header.new.self c.read-header.ensures.only) k turns u v w
+    went_on z (g.S.Steps.sizes c.read_word-header.new.steps) (g.met.S.Steps.only_sizes c.args.steps.now c.read_word-header.new.steps c.read_word-header.ensures.only) k turns u v w
     (at_stage depth (Header y n)) (at_stage depth (staged c.first_word.result seen)) c.args.tally.now _ (Read y 1) (word_told word) before refl row (omega (arith, c.requires.left)) refl refl
     (staged_first depth c.first_word.result seen) (staged_going c.first_word.result seen)
     (staged_fits z k (get_done k) depth u w seen (node_on z u v w y 1 word n fits.0 row) (IsHeader word) c.first_word.result deep small c.first_word.ensures past there)
 
-pub read-header-requires-clause-may : goal.read-header-requires-clause-may
-read-header-requires-clause-may g c =
+pub read_word-header-requires : goal.read_word-header-requires
+read_word-header-requires g c =
     let b = c.requires.goes in
-    (allowed (g.S.Steps.sizes c.args.steps.now) c.args.key.now (get_done c.args.key.now) c.args.depth (Header c.args.stamp c.args.node) b.1 (g.S.Steps.view c.args.steps.now) b.2.get.fits).1
+    let k = c.args.key.now in
+    record {
+      allowed = allowed (g.S.Steps.sizes c.args.steps.now) k (get_done k) c.args.depth (Header c.args.stamp c.args.node) b.1 (g.S.Steps.view c.args.steps.now) b.2.get.fits;
+    }
 
 pub read-requires-clause-few : goal.read-requires-clause-few
 read-requires-clause-few g c = c.requires.goes.2.short
@@ -95,7 +98,7 @@ pub pass_prefix-requires-clause-left : goal.pass_prefix-requires-clause-left
 pass_prefix-requires-clause-left g c = omega (arith, c.requires.left)
 
 pub returns-then-read_header-gt0-clause-only : goal.returns-then-read_header-gt0-clause-only
-returns-then-read_header-gt0-clause-only g c = g.met.S.Steps.only_then c.args.steps.now c.read-header.new.self c.pass_prefix.new.steps c.read-header.ensures.only c.pass_prefix.ensures.only
+returns-then-read_header-gt0-clause-only g c = g.met.S.Steps.only_then c.args.steps.now c.read_word-header.new.steps c.pass_prefix.new.steps c.read_word-header.ensures.only c.pass_prefix.ensures.only
 
 pub returns-then-read_header-gt0-clause-less : goal.returns-then-read_header-gt0-clause-less
 returns-then-read_header-gt0-clause-less g c = omega (arith, c.requires.left, c.pass_prefix.ensures.less)
@@ -107,7 +110,7 @@ pub returns-then-read_header-gt0-clause-deep : goal.returns-then-read_header-gt0
 returns-then-read_header-gt0-clause-deep g c = c.pass_prefix.ensures.deep
 
 pub returns-clause-only : goal.returns-clause-only
-returns-clause-only g c = c.read-header.ensures.only
+returns-clause-only g c = c.read_word-header.ensures.only
 
 pub returns-clause-less : goal.returns-clause-less
 returns-clause-less g c = omega (arith, c.requires.left)

@@ -3,7 +3,7 @@ use Rattle.art_cell.specs.Bodies.{IsInOrder, IsRelaid}
 use Rattle.art_cell.specs.Lemmas.Entries.{listed_at_most}
 use Rattle.art_cell.specs.Reads.{word_of}
 use Rattle.art_cell.specs.Words.{child_of}
-use Rattle.art_cell.specs.declared.layouts.Layout.TheVariants.{Node4, Node16, Node48}
+use Rattle.art_cell.specs.declared.cells.Layout.TheVariants.{Node4, Node16, Node48}
 use Rattle.art_node.specs.Sizes.{larger}
 use Rattle.art_node.proofs.OfLayout.{body_of}
 use Rattle.art_node.proofs.nodes.grow.Goals as goal

@@ -1,7 +1,7 @@
 use Rattle.std.proofs.Common.{◌≡◌, subst, sym}
 use Rattle.art_cell.specs.Words.{entries}
 use Rattle.art_cell.specs.Reads.{word_of}
-use Rattle.art_cell.specs.declared.layouts.Layout.TheVariants.{Node4, Node16, Node48, Node256}
+use Rattle.art_cell.specs.declared.cells.Layout.TheVariants.{Node4, Node16, Node48, Node256}
 use Rattle.art_node.proofs.OfLayout.{body_of}
 use Rattle.art_node.proofs.nodes.list.Goals as goal
 

@@ -2,7 +2,7 @@ use Rattle.std.proofs.Common.{◌≡◌, ◌↔◌, None, false, true, subst, sy
 use Rattle.art_cell.specs.Words.{child_of}
 use Rattle.art_cell.specs.Bodies.{IsFull, TakesLowest}
 use Rattle.art_cell.specs.Reads.{IsPlan, with_child, word_of, written}
-use Rattle.art_cell.specs.declared.layouts.Layout.TheVariants.{Node4, Node16, Node48, Node256}
+use Rattle.art_cell.specs.declared.cells.Layout.TheVariants.{Node4, Node16, Node48, Node256}
 use Rattle.art_node.proofs.OfLayout.{body_of}
 use Rattle.art_node.proofs.nodes.plan_add.Goals as goal
 

@@ -1,7 +1,7 @@
 use Rattle.std.proofs.Common.{subst, sym}
 use Rattle.art_cell.specs.Words.{child_of}
 use Rattle.art_cell.specs.Reads.{IsPlan, with_child, word_of}
-use Rattle.art_cell.specs.declared.layouts.Layout.TheVariants.{Node4, Node16, Node48, Node256}
+use Rattle.art_cell.specs.declared.cells.Layout.TheVariants.{Node4, Node16, Node48, Node256}
 use Rattle.art_node.proofs.OfLayout.{body_of, child_there}
 use Rattle.art_node.proofs.nodes.plan_set.Goals as goal
 

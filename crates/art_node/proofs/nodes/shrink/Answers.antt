@@ -2,7 +2,7 @@ use Rattle.std.proofs.Common.{◌≤◌, subst, sym}
 use Rattle.art_cell.specs.Bodies.{IsInOrder, IsRelaid}
 use Rattle.art_cell.specs.Reads.{word_of}
 use Rattle.art_cell.specs.Words.{count_of, places}
-use Rattle.art_cell.specs.declared.layouts.Layout.TheVariants.{Node16, Node48, Node256}
+use Rattle.art_cell.specs.declared.cells.Layout.TheVariants.{Node16, Node48, Node256}
 use Rattle.art_node.specs.Sizes.{smaller}
 use Rattle.art_node.proofs.OfLayout.{body_of}
 use Rattle.art_node.proofs.nodes.shrink.Goals as goal

@@ -1,5 +1,5 @@
 use Rattle.std.proofs.Common.{◌+◌, ◌<◌, length, refl, ap, subst, ◌∙◌, arith}
-use Rattle.art_cell.specs.declared.layouts.Layout.{Layout}
+use Rattle.art_cell.specs.declared.cells.Layout.{Layout}
 use Rattle.art_cell.specs.declared.node_kinds.Entry.{Entry}
 use Rattle.art_cell.specs.Lemmas.Empty.{IsEmpty}
 use Rattle.art_cell.specs.Words.{child_of, entries}

@@ -1,6 +1,6 @@
 use Rattle.std.proofs.Common.{sym, subst}
-use Rattle.art_cell.specs.declared.layouts.Layout.{Layout}
-use Rattle.art_cell.specs.declared.layouts.Layout.TheVariants.{Node48}
+use Rattle.art_cell.specs.declared.cells.Layout.{Layout}
+use Rattle.art_cell.specs.declared.cells.Layout.TheVariants.{Node48}
 use Rattle.art_node4.specs.declared.layouts.Sorted.TheVariants.{Four, Sixteen}
 use Rattle.art_node.specs.Searches.{IsNextWord, SoughtTells}
 use Rattle.art_node.proofs.SoughtWords.{tells_fewer, tells_next, next_has_word}

@@ -1,6 +1,6 @@
 use Rattle.std.proofs.Common.{sym, subst}
-use Rattle.art_cell.specs.declared.layouts.Layout.{Layout}
-use Rattle.art_cell.specs.declared.layouts.Layout.TheVariants.{Node48}
+use Rattle.art_cell.specs.declared.cells.Layout.{Layout}
+use Rattle.art_cell.specs.declared.cells.Layout.TheVariants.{Node48}
 use Rattle.art_node4.specs.declared.layouts.Sorted.TheVariants.{Four, Sixteen}
 use Rattle.art_node.specs.Searches.{IsNextWordFrom, SoughtFromTells}
 use Rattle.art_node.proofs.SoughtWords.{tells_fewer_from, tells_next_from, next_has_word_from}

@@ -1,5 +1,5 @@
 use Rattle.std.proofs.Common.{rules, ◌≡◌, ◌+◌, ◌∙◌, ℕ, List, subst, ap, sym, arith}
-use Rattle.art_cell.specs.declared.writes.Write.{Write}
+use Rattle.art_cell.specs.declared.cells.Write.{Write}
 use Rattle.art_cell.specs.Reads.{IsPlan, with_child, word_of}
 use Rattle.art_cell.specs.Words.{child_of}
 use Rattle.art_node4.specs.Edits.{changed}

@@ -1,4 +1,4 @@
-use Rattle.art_cell.specs.declared.layouts.Layout.TheVariants.{Node16}
+use Rattle.art_cell.specs.declared.cells.Layout.TheVariants.{Node16}
 use Rattle.art_cell.specs.Reads.{IsBodyOf}
 use Rattle.art_node_uses.proofs.node16.with_bytes.Given as goal
 

@@ -1,4 +1,4 @@
-use Rattle.art_cell.specs.declared.layouts.Layout.TheVariants.{Node48}
+use Rattle.art_cell.specs.declared.cells.Layout.TheVariants.{Node48}
 use Rattle.art_cell.specs.Reads.{IsBodyOf}
 use Rattle.art_node_uses.proofs.node48.seventeen.Given as goal
 

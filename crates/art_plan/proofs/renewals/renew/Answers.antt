@@ -2,11 +2,11 @@
 use Rattle.std.proofs.Common.{◌≡◌, ℕ, ◌≤◌, List, ◌++◌, ◌∷◌, [], filter_map, Some, refl, sym, ap, ◌∙◌, subst, arith}
 use Rattle.art_cell.specs.Children.{child_word}
 use Rattle.art_cell.specs.Words.{size}
-use Rattle.art_cell.specs.declared.layouts.Layout.{Layout}
-use Rattle.art_cell.specs.declared.layouts.Layout.TheVariants.{Node4, Node16, Node48, Node256}
+use Rattle.art_cell.specs.declared.cells.Layout.{Layout}
+use Rattle.art_cell.specs.declared.cells.Layout.TheVariants.{Node4, Node16, Node48, Node256}
 use Rattle.art_cell.specs.declared.cells.Link.TheVariants.{Node as node}
 use Rattle.art_cell.specs.declared.cells.Node.{Node}
-use Rattle.art_cell.specs.declared.writes.Write.{Write}
+use Rattle.art_cell.specs.declared.cells.Write.{Write}
 use Rattle.art_plan.specs.Puts.{IsSitePlan, puts_of}
 use Rattle.art_plan.specs.Renewing.{IsRenewal, lower_targets, moved_put, renewed, twin_words}
 use Rattle.art_plan.specs.Seen.{gone, kept, site_stamp}

@@ -1,6 +1,6 @@
 use Rattle.std.proofs.Common.{◌≡◌, ◌≢◌, ◌∙◌, ◌*◌, ◌<◌, ◌≤◌, ◌==◌, if◌then◌else◌, ℕ, eq-eqb, le-ltb, lt-ltb, nat_lt, ne_eqb, refl, subst, sym}
 use Rattle.std.proofs.lemmas.Bool.{cond-false, cond-true}
-use Rattle.art_cell.specs.declared.layouts.Pool.TheVariants.{N4}
+use Rattle.art_cell.specs.declared.cells.Pool.TheVariants.{N4}
 use Rattle.art_step.specs.declared.views.Sizes.{Sizes}
 use Rattle.art_step.specs.OpeningWords.{opening_free_word, opening_node_word, opening_word}
 use Rattle.art_step.specs.WordPlaces.{cells_end, epoch_place, first_cell, free_words_end}

@@ -1,6 +1,6 @@
 use Rattle.std.proofs.Common.{◌∙◌, List, ap}
-use Rattle.art_cell.specs.declared.layouts.Pool.{Pool}
-use Rattle.art_cell.specs.declared.layouts.Pool.TheVariants as pool
+use Rattle.art_cell.specs.declared.cells.Pool.{Pool}
+use Rattle.art_cell.specs.declared.cells.Pool.TheVariants as pool
 use Rattle.art_closed.specs.Cells.{memory_in, schema_left, sizes_left}
 use Rattle.art_closed.specs.Counts.{IsCounted}
 use Rattle.art_shared.specs.declared.law.Basis.{Basis}

@@ -1,5 +1,5 @@
 use Rattle.std.proofs.Common.{sym, ap, subst}
-use Rattle.art_attempt.specs.declared.rooms.Room.{Room as RoomOf}
+use Rattle.art_attempt.specs.declared.attempts.Room.{Room as RoomOf}
 use Rattle.art_attempt.specs.Attempts.{IsRoom}
 use Rattle.art_change.specs.Writes.{IsReady}
 use Rattle.art_world_uses.proofs.traces.steps_of.Goals as goal

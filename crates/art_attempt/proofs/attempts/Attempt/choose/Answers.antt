@@ -7,7 +7,7 @@ use Rattle.art_attempt.specs.Cases.{IsCaseOf}
 use Rattle.art_attempt.specs.Parts.{PartKnows}
 use Rattle.art_attempt.specs.declared.attempts.Attempt.{Attempt}
 use Rattle.art_attempt.specs.declared.attempts.Job.{Job}
-use Rattle.art_attempt.specs.declared.cases.Case.TheVariants.{DropLeaf, Shrink}
+use Rattle.art_attempt.specs.declared.attempts.Case.TheVariants.{DropLeaf, Shrink}
 use Rattle.art_attempt.proofs.Validates.{here_begins}
 
 pub read_on-requires : goal.read_on-requires

@@ -5,7 +5,7 @@ use Rattle.art_attempt.proofs.attempts.Attempt.enter.Goals as goal
 use Rattle.art_attempt.specs.Attempts.{settles}
 use Rattle.art_attempt.specs.Cases.{IsCaseOf}
 use Rattle.art_attempt.specs.declared.attempts.Job.{Job}
-use Rattle.art_attempt.specs.declared.cases.Case.TheVariants.{NewLeaf}
+use Rattle.art_attempt.specs.declared.attempts.Case.TheVariants.{NewLeaf}
 
 pub supply-requires-clause-within : goal.supply-requires-clause-within
 supply-requires-clause-within c =

@@ -6,10 +6,10 @@ use Rattle.art_attempt.proofs.Tries.{later_then, still_later}
 use Rattle.art_attempt.proofs.attempts.Attempt.find_on.Goals as goal
 use Rattle.art_attempt.specs.Attempts.{IsFinding, deed_by, settled_of}
 use Rattle.art_attempt.proofs.Ends.{anywhere}
-use Rattle.art_attempt.specs.declared.cases.Case.TheVariants.{NewLeaf}
+use Rattle.art_attempt.specs.declared.attempts.Case.TheVariants.{NewLeaf}
 use Rattle.art_attempt.specs.declared.attempts.Stage.{Stage}
 use Rattle.art_attempt.specs.declared.attempts.Stage.TheVariants as stages
-use Rattle.art_attempt.specs.declared.rooms.Room.{Room}
+use Rattle.art_attempt.specs.declared.attempts.Room.{Room}
 use Rattle.art_find.proofs.Counting.{asks_look}
 use Rattle.art_find.proofs.Stages.{still_reading}
 use Rattle.art_find.specs.Descents.{answer_at, asks}

@@ -4,7 +4,7 @@ use Rattle.art_attempt.proofs.Numbers.{supplies_alone, supplies_full, supplies_s
 use Rattle.art_attempt.proofs.attempts.Attempt.lack.Goals as goal
 use Rattle.art_attempt.specs.Cases.{IsCaseOf}
 use Rattle.art_attempt.specs.declared.attempts.Job.{Job}
-use Rattle.art_attempt.specs.declared.cases.Case.TheVariants.{DropLeaf}
+use Rattle.art_attempt.specs.declared.attempts.Case.TheVariants.{DropLeaf}
 
 pub returns-in-Insert-clause-fits : goal.returns-in-Insert-clause-fits
 returns-in-Insert-clause-fits c z u v k s room h full =

@@ -4,9 +4,9 @@ use Rattle.art_attempt.proofs.attempts.Attempt.leave.Goals as goal
 use Rattle.art_attempt.specs.Attempts.{absent, settled_by, settles, value_found}
 use Rattle.art_attempt.specs.declared.attempts.Job.{Job}
 use Rattle.art_attempt.specs.declared.attempts.Job.TheVariants.{Remove}
-use Rattle.art_attempt.specs.declared.cases.Case.TheVariants.{NewLeaf}
+use Rattle.art_attempt.specs.declared.attempts.Case.TheVariants.{NewLeaf}
 use Rattle.art_find.specs.Findings.{position_at}
-use Rattle.art_find.specs.declared.verdicts.Verdict.{Verdict}
+use Rattle.art_find.specs.declared.descents.Verdict.{Verdict}
 
 pub found-requires : goal.found-requires
 found-requires c = c.requires.placed.4.key.short

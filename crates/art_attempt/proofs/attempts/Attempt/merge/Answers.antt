@@ -6,7 +6,7 @@ use Rattle.art_attempt.proofs.Chosen.{none_left, one_left}
 use Rattle.art_attempt.proofs.attempts.Attempt.merge.Goals as goal
 use Rattle.art_attempt.specs.Cases.{IsCaseOf, LeavesOther}
 use Rattle.art_attempt.specs.declared.attempts.Job.{Job}
-use Rattle.art_attempt.specs.declared.cases.Case.TheVariants.{MergeLeaf, Torn}
+use Rattle.art_attempt.specs.declared.attempts.Case.TheVariants.{MergeLeaf, Torn}
 
 pub returns-in_default-clause-fits : goal.returns-in_default-clause-fits
 returns-in_default-clause-fits c z u v room so job standing known merges =

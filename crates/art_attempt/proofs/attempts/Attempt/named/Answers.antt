@@ -5,13 +5,13 @@ use Rattle.art_attempt.proofs.Ends.{anywhere}
 use Rattle.art_attempt.proofs.attempts.Attempt.named.Goals as goal
 use Rattle.art_attempt.specs.Cases.{IsCaseOf}
 use Rattle.art_attempt.specs.declared.attempts.Job.{Job}
-use Rattle.art_attempt.specs.declared.cases.Case.TheVariants.{MergeNode, NewLeaf}
+use Rattle.art_attempt.specs.declared.attempts.Case.TheVariants.{MergeNode, NewLeaf}
 use Rattle.art_attempt.specs.Naming.{StageFits, ended_at}
 use Rattle.art_attempt.specs.declared.naming.Named.{Named}
 use Rattle.art_attempt.specs.declared.naming.Named.TheVariants.{Unchanged}
 use Rattle.art_attempt.specs.declared.naming.Naming.{Naming}
 use Rattle.art_attempt.specs.declared.naming.Naming.TheVariants.{Ended}
-use Rattle.art_plan.specs.declared.choose_remove.lowers.Lower.{Lower}
+use Rattle.art_plan.specs.declared.choose_remove.Lower.{Lower}
 
 pub returns-in-Unchanged-clause-fits : goal.returns-in-Unchanged-clause-fits
 returns-in-Unchanged-clause-fits c z u v s room h is =

@@ -2,7 +2,7 @@ use Rattle.std.proofs.Common.{refl, subst}
 use Rattle.art_attempt.proofs.CaseCells.{seen_here}
 use Rattle.art_attempt.proofs.attempts.Attempt.plan.Goals as goal
 use Rattle.art_attempt.specs.Attempts.{IsKnown, IsValidating}
-use Rattle.art_attempt.specs.declared.cases.Case.{Case as CaseOf}
+use Rattle.art_attempt.specs.declared.attempts.Case.{Case as CaseOf}
 use Rattle.art_attempt.specs.declared.validate.Validate.TheVariants.{Ended as validated}
 use Rattle.art_attempt.specs.declared.validate.Validated.TheVariants.{Unchanged as unchanged}
 

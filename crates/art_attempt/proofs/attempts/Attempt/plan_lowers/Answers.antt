@@ -3,8 +3,8 @@ use Rattle.art_attempt.proofs.CaseCells.{below_merges, below_seen, below_still, 
 use Rattle.art_attempt.proofs.Chosen.{goes_remove}
 use Rattle.art_attempt.proofs.Commits.{leaf_may}
 use Rattle.art_attempt.proofs.attempts.Attempt.plan_lowers.Goals as goal
-use Rattle.art_attempt.specs.declared.cases.Case.TheVariants.{MergeNode}
-use Rattle.art_attempt.specs.declared.rooms.Room.{Room}
+use Rattle.art_attempt.specs.declared.attempts.Case.TheVariants.{MergeNode}
+use Rattle.art_attempt.specs.declared.attempts.Room.{Room}
 
 pub plan_merge_node-requires-clause-found : goal.plan_merge_node-requires-clause-found
 plan_merge_node-requires-clause-found c =

@@ -3,8 +3,8 @@ use Rattle.art_attempt.proofs.CaseCells.{gone_standing, seen_both, seen_here, va
 use Rattle.art_attempt.proofs.Commits.{leaf_may}
 use Rattle.art_attempt.proofs.Chosen.{goes_remove}
 use Rattle.art_attempt.proofs.attempts.Attempt.plan_merges.Goals as goal
-use Rattle.art_attempt.specs.declared.cases.Case.TheVariants.{MergeLeaf}
-use Rattle.art_attempt.specs.declared.rooms.Room.{Room}
+use Rattle.art_attempt.specs.declared.attempts.Case.TheVariants.{MergeLeaf}
+use Rattle.art_attempt.specs.declared.attempts.Room.{Room}
 
 pub plan_merge_leaf-requires-clause-seen : goal.plan_merge_leaf-requires-clause-seen
 plan_merge_leaf-requires-clause-seen c =

@@ -5,11 +5,11 @@ use Rattle.art_attempt.proofs.attempts.Attempt.plan_new.Goals as goal
 use Rattle.art_attempt.specs.Cases.{made_by}
 use Rattle.art_attempt.specs.Rooms.{number_for}
 use Rattle.art_attempt.specs.declared.attempts.Job.{Job}
-use Rattle.art_attempt.specs.declared.cases.Case.TheVariants.{NewLeaf}
-use Rattle.art_attempt.specs.declared.rooms.Room.{Room}
+use Rattle.art_attempt.specs.declared.attempts.Case.TheVariants.{NewLeaf}
+use Rattle.art_attempt.specs.declared.attempts.Room.{Room}
 use Rattle.art_machine.specs.declared.actions.Effects.{Effects}
 use Rattle.art_plan.specs.ChooseInsert.Plans.{HasNeeded}
-use Rattle.art_plan.specs.declared.choose_insert.needs.Needs.{Needs}
+use Rattle.art_plan.specs.declared.choose_insert.Needs.{Needs}
 
 pub plan_insert-requires-clause-seen : goal.plan_insert-requires-clause-seen
 plan_insert-requires-clause-seen c =

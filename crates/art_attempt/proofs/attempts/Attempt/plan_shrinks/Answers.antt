@@ -3,8 +3,8 @@ use Rattle.art_attempt.proofs.CaseCells.{gone_standing, seen_both, smaller_ready
 use Rattle.art_attempt.proofs.Commits.{leaf_may}
 use Rattle.art_attempt.proofs.Chosen.{goes_remove}
 use Rattle.art_attempt.proofs.attempts.Attempt.plan_shrinks.Goals as goal
-use Rattle.art_attempt.specs.declared.cases.Case.TheVariants.{Shrink}
-use Rattle.art_attempt.specs.declared.rooms.Room.{Room}
+use Rattle.art_attempt.specs.declared.attempts.Case.TheVariants.{Shrink}
+use Rattle.art_attempt.specs.declared.attempts.Room.{Room}
 
 pub plan_shrink-requires-clause-seen : goal.plan_shrink-requires-clause-seen
 plan_shrink-requires-clause-seen c =

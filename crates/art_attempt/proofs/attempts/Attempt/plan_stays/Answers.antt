@@ -2,8 +2,8 @@ use Rattle.art_attempt.proofs.CaseCells.{gone_standing, seen_here, validated_loc
 use Rattle.art_attempt.proofs.Commits.{leaf_may}
 use Rattle.art_attempt.proofs.Chosen.{goes_remove}
 use Rattle.art_attempt.proofs.attempts.Attempt.plan_stays.Goals as goal
-use Rattle.art_attempt.specs.declared.cases.Case.TheVariants.{DropLeaf}
-use Rattle.art_attempt.specs.declared.rooms.Room.{Room}
+use Rattle.art_attempt.specs.declared.attempts.Case.TheVariants.{DropLeaf}
+use Rattle.art_attempt.specs.declared.attempts.Room.{Room}
 
 pub plan_drop-requires-clause-seen : goal.plan_drop-requires-clause-seen
 plan_drop-requires-clause-seen c =

@@ -1,7 +1,8 @@
 -- The steps are those of the rereading.
-use Rattle.std.proofs.Common.{◌∙◌, Some, ap, sym, subst, arith}
+use Rattle.std.proofs.Common.{◌∙◌, Some, ap, rules, sym, subst}
 use Rattle.std.specs.Prelude.{⊤}
-use Rattle.art_attempt.proofs.Stages.{asks_part, at_part, same_on}
+use Rattle.art_attempt.proofs.Phases.{prepares_none, prepares_one}
+use Rattle.art_attempt.proofs.Stages.{asks_part, at_part}
 use Rattle.art_attempt.specs.Attempts.{Fits, deed_at}
 use Rattle.art_attempt.specs.declared.attempts.Part.{Part}
 use Rattle.art_attempt.specs.declared.attempts.Part.TheVariants as parts
@@ -45,6 +46,12 @@ read_told-requires-clause-told g c =
     let row : Answers z (telling d) a c.in-Some-look.answer v w = subst (λ (y : Sizes). Answers y (telling d) a c.in-Some-look.answer v w) i.sizes (c.in-Some-look.ensures.row d) in
     (z, i.here.0, v, w, a, i.here.1, asks_part m r c.in-Placed.position c.in-Placed.part (parts.Reading c.in-Reading.rereading) c.in-Placed.is c.in-Reading.is (Some a) (sym c.next.ensures.asks ∙ c.in-Some.is), row)
 
+pub loop-left-init : goal.loop-left-init
+loop-left-init g c =
+    let s = c.args.steps.now in
+    let none = prepares_none (g.S.Steps.sizes s) c.args.self.now c.args.room.now c.args.left.now (g.S.Steps.view s) c.requires.turn in
+    search rules
+
 pub loop-left-preserved : goal.loop-left-preserved
 loop-left-preserved g c =
     let s = c.args.steps.now in
@@ -62,18 +69,11 @@ loop-left-preserved g c =
     let one = (look_counts z d a c.in-Some-look.answer v w (reads_look c.in-Placed.position.stamp c.in-Reading.rereading a is) row).steps in
     let on : (u : View) → Fits z u m r v → Fits z u c.read_told.new.self c.read_told.new.room w = λ u fits.
     c.read_told.ensures.fits z u v w a fits (asks_part m r c.in-Placed.position c.in-Placed.part (parts.Reading c.in-Reading.rereading) c.in-Placed.is c.in-Reading.is (Some a) is) row in
-    let made = i.made in
-    let less = i.less in
-    let more = c.loop-left-test.true in
     record {
       only = g.met.S.Steps.only_then s t c.look.new.steps i.only c.look.ensures.only;
       sizes = g.met.S.Steps.only_sizes t c.look.new.steps c.look.ensures.only ∙ i.sizes;
-      kept = same_on c.args.self.now m c.read_told.new.self c.args.room.now r c.read_told.new.room i.kept c.read_told.ensures.kept;
       apart = c.read_told.ensures.not_overlaps;
       free = c.read_told.ensures.free;
-      some = omega (arith, more);
-      less = omega (arith, less);
-      made = omega (arith, made, one, more);
       here = (i.here.0, on i.here.0 i.here.1);
-      fits = λ u fits. on u (i.fits u fits);
+      prepared = prepares_one i.prepared c.read_told.ensures.kept one c.loop-left-test.true on;
     }

@@ -7,7 +7,7 @@ use Rattle.art_attempt.specs.Cases.{HasLeaf}
 use Rattle.art_attempt.specs.declared.attempts.Part.TheVariants as parts
 use Rattle.art_attempt.specs.declared.attempts.Stage.{Stage}
 use Rattle.art_attempt.specs.declared.attempts.Stage.TheVariants as stages
-use Rattle.art_attempt.specs.declared.rooms.Room.{Room}
+use Rattle.art_attempt.specs.declared.attempts.Room.{Room}
 use Rattle.art_attempt.proofs.attempts.Attempt.read_on.Goals as goal
 use Rattle.art_find.specs.ReadSets.{node_of}
 

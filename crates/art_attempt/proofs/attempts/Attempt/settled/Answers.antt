@@ -5,9 +5,9 @@ use Rattle.art_attempt.proofs.attempts.Attempt.settled.Goals as goal
 use Rattle.art_attempt.specs.Attempts.{IsFinding, WasPlaced, check_of, deed_by, settled_of, settles}
 use Rattle.art_attempt.proofs.Ends.{anywhere}
 use Rattle.art_attempt.specs.declared.attempts.Job.{Job}
-use Rattle.art_attempt.specs.declared.cases.Case.TheVariants.{NewLeaf}
+use Rattle.art_attempt.specs.declared.attempts.Case.TheVariants.{NewLeaf}
 use Rattle.art_find.specs.declared.findings.Finding.{Finding}
-use Rattle.art_attempt.specs.declared.rooms.Room.{Room}
+use Rattle.art_attempt.specs.declared.attempts.Room.{Room}
 use Rattle.art_find.specs.Findings.{position_at}
 use Rattle.art_find.specs.declared.findings.Position.{Position}
 use Rattle.art_machine.specs.Acting.{Answers, passed, telling}

@@ -5,7 +5,7 @@ use Rattle.art_attempt.proofs.Numbers.{supplies_known, supplies_so, supplies_sta
 use Rattle.art_attempt.proofs.attempts.Attempt.supplied.Goals as goal
 use Rattle.art_attempt.specs.Validate.{BelowFits}
 use Rattle.art_attempt.specs.declared.reserve.Reserved.{Reserved}
-use Rattle.art_plan.specs.declared.choose_remove.lowers.Lower.{Lower}
+use Rattle.art_plan.specs.declared.choose_remove.Lower.{Lower}
 
 pub returns-in-Ready-clause-fits : goal.returns-in-Ready-clause-fits
 returns-in-Ready-clause-fits c z u v s room h is =

@@ -6,9 +6,9 @@ use Rattle.art_attempt.specs.Attempts.{EndsWithin, HasSupplies, IsRoom, WantsNum
 use Rattle.art_attempt.specs.Cases.{IsCaseOf, demand_of}
 use Rattle.art_attempt.specs.declared.attempts.Job.{Job}
 use Rattle.art_attempt.specs.declared.attempts.Part.TheVariants as parts
-use Rattle.art_attempt.specs.declared.cases.Case.{Case}
+use Rattle.art_attempt.specs.declared.attempts.Case.{Case}
 use Rattle.art_attempt.specs.declared.reserve.Reserve.{Reserve}
-use Rattle.art_attempt.specs.declared.rooms.Room.{Room}
+use Rattle.art_attempt.specs.declared.attempts.Room.{Room}
 use Rattle.art_epoch.specs.declared.stocks.Stock.{Stock}
 use Rattle.art_find.specs.Findings.{IsStanding}
 use Rattle.art_find.specs.declared.findings.Position.{Position}

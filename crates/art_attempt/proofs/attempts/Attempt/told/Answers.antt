@@ -11,7 +11,7 @@ use Rattle.art_attempt.specs.Attempts.{Fits, StageFits, asks, asks_at, deed_at, 
 use Rattle.art_attempt.specs.declared.attempts.Attempt.{Attempt}
 use Rattle.art_attempt.specs.declared.attempts.Stage.{Stage as StageOf}
 use Rattle.art_attempt.specs.declared.attempts.Stage.TheVariants as stages
-use Rattle.art_attempt.specs.declared.rooms.Room.{Room}
+use Rattle.art_attempt.specs.declared.attempts.Room.{Room}
 use Rattle.art_find.specs.declared.findings.Finding.{Finding}
 use Rattle.art_machine.specs.Acting.{IsLook, steps_in}
 use Rattle.art_machine.specs.declared.actions.Action.{Action}

@@ -3,7 +3,7 @@ use Rattle.art_attempt.proofs.CaseCells.{validating_changed}
 use Rattle.art_attempt.proofs.Ends.{anywhere}
 use Rattle.art_attempt.proofs.attempts.Attempt.validated.Goals as goal
 use Rattle.art_attempt.specs.Attempts.{IsValidating}
-use Rattle.art_attempt.specs.declared.cases.Case.TheVariants.{NewLeaf}
+use Rattle.art_attempt.specs.declared.attempts.Case.TheVariants.{NewLeaf}
 use Rattle.art_attempt.specs.declared.validate.Validate.TheVariants.{Ended}
 use Rattle.art_attempt.specs.declared.validate.Validated.{Validated}
 

@@ -1,5 +1,5 @@
 use Rattle.std.proofs.Common.{◌∙◌, refl, sym, arith}
-use Rattle.art_cell.specs.declared.layouts.Pool.TheVariants.{Leaves as leaves}
+use Rattle.art_cell.specs.declared.cells.Pool.TheVariants.{Leaves as leaves}
 use Rattle.art_attempt.proofs.Reserves.{begins_sought, begins_supplies, soon_first}
 use Rattle.art_attempt.specs.Reserve.{few_steps, leaf_looks, leaf_steps, most_steps, search_looks, search_steps}
 use Rattle.art_attempt.proofs.reserve.Reserve.new.Goals as goal

@@ -1,5 +1,5 @@
 use Rattle.std.proofs.Common.{◌∙◌, arith, ap, subst, sym}
-use Rattle.art_change.specs.ArtAttempt.declared.rooms.Room.{Room}
+use Rattle.art_change.specs.ArtAttempt.declared.attempts.Room.{Room}
 use Rattle.art_call.proofs.callers.Caller.begin_remove.Goals as goal
 use Rattle.art_change.proofs.Ready.{ready_may}
 use Rattle.art_change.specs.ArtAttempt.Trying.{IsKey}

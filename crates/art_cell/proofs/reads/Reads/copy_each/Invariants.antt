@@ -7,3 +7,4 @@ use Rattle.art_cell.proofs.reads.Reads.copy_each.Given as goal
 abbrev pub invariant-loop-place : goal.invariant-loop-place
 invariant-loop-place l = (length l.words ≡ 266) × ((p : ℕ) → p < l.from → get_or l.words p 0 ≡ get_or l.fn.words p 0)
     × ((p : ℕ) → l.from ≤ p → p < l.place → get_or l.words p 0 ≡ unwrap_or (word_read l.self p) 0)
+    × ((p : ℕ) → l.to ≤ p → get_or l.words p 0 ≡ get_or l.fn.words p 0)

@@ -6,7 +6,7 @@ use Rattle.art_change.specs.Writes.{IsExiting, outcome_in, refuses_at}
 use Rattle.art_change.specs.declared.writes.Write.{Write}
 use Rattle.art_change.specs.declared.writes.Stage.{Stage as StageOf}
 use Rattle.art_change.specs.declared.writes.Stage.TheVariants.{Exit, Ended}
-use Rattle.art_attempt.specs.declared.rooms.Room.{Room as RoomOf}
+use Rattle.art_attempt.specs.declared.attempts.Room.{Room as RoomOf}
 use Rattle.art_change.proofs.FrameSteps.{exit_frame, frame_one}
 use Rattle.art_epoch.specs.Limbo.{places_of}
 use Rattle.art_epoch.specs.Exit.{ExitFits}

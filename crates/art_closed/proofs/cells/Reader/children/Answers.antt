@@ -1,7 +1,7 @@
 use Rattle.std.proofs.Common.{◌≡◌, ◌+◌, ◌<◌, ◌≤◌, ◌∙◌, ℕ, ap, ap₂, sym, refl, subst, arith, length, get_or, set}
 use Rattle.std.proofs.lemmas.List.{length-set}
 use Rattle.art_cell.specs.declared.cells.Cell.TheVariants as cells
-use Rattle.art_cell.specs.declared.layouts.Layout.{Layout}
+use Rattle.art_cell.specs.declared.cells.Layout.{Layout}
 use Rattle.art_cell.specs.Bodies.{IsBody}
 use Rattle.art_cell.specs.Reads.{word_of}
 use Rattle.art_cell.specs.Words.{Words, entries, size}

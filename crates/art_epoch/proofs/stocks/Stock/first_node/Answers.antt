@@ -1,8 +1,6 @@
-use Rattle.std.proofs.Common.{◌∙◌, refl, sym}
+use Rattle.std.proofs.Common.{◌∙◌, sym}
+use Rattle.art_epoch.proofs.Stocked.{none_first}
 use Rattle.art_epoch.proofs.stocks.Stock.first_node.Goals as goal
 
-pub returns-in-Some : goal.returns-in-Some
-returns-in-Some c = rw (sym c.link.ensures ∙ c.in-Some.is) refl
-
-pub returns-in-None : goal.returns-in-None
-returns-in-None c = rw (sym c.link.ensures ∙ c.in-None.is) c.link-in-None.ensures
+pub returns-else-has_node : goal.returns-else-has_node
+returns-else-has_node c = sym (none_first c.args.self.now (sym c.has_node.ensures ∙ c.if-has_node.false))

@@ -2,7 +2,7 @@ use Rattle.std.proofs.Common.{◌+◌, ◌<◌, ℕ, length, get_or, sym, subst,
 use Rattle.art_find.specs.Descents.{StageFits}
 use Rattle.art_find.specs.Ways.{IsPastPrefix}
 use Rattle.art_find.specs.declared.descents.Stage.{Stage}
-use Rattle.art_find.specs.declared.verdicts.Verdict.TheVariants.{Overlaps}
+use Rattle.art_find.specs.declared.descents.Verdict.TheVariants.{Overlaps}
 use Rattle.art_find.proofs.Judged.{judged_passed}
 use Rattle.art_find.proofs.NodeWords.{past_prefix}
 use Rattle.art_find.proofs.Stages.{node_decided, staged_fits}

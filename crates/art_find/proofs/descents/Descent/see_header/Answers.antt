@@ -2,7 +2,7 @@ use Rattle.std.proofs.Common.{◌≡◌, ℕ, sym, subst, arith}
 use Rattle.art_cell.specs.declared.cells.Cell.TheVariants as cell
 use Rattle.art_cell.specs.Words.{packed}
 use Rattle.art_find.specs.Ways.{count_in}
-use Rattle.art_find.specs.declared.verdicts.Verdict.TheVariants.{Torn}
+use Rattle.art_find.specs.declared.descents.Verdict.TheVariants.{Torn}
 use Rattle.art_find.proofs.NodeWords.{not_torn}
 use Rattle.art_find.proofs.Stages.{node_decided}
 use Rattle.art_path.specs.Compared.{AreSame}

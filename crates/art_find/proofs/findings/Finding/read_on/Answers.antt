@@ -27,15 +27,12 @@ module _ (z : Sizes) (k : List ℕ) (m : Finding) (read_set : ReadSet) (v : View
       let fit = cell_fits x.cell in
       omega (arith, within, fit)
 
-pub read-word-requires-clause-inside : goal.read-word-requires-clause-inside
-read-word-requires-clause-inside g c =
-    (may_read (g.S.Steps.sizes c.args.steps.now) c.args.key.now c.args.self.now c.args.read_set.now (g.S.Steps.view c.args.steps.now) c.requires.fits
-    c.in-Anchor.stamp 1 (ap asks (sym c.stage.ensures ∙ c.in-Anchor.is))).0
-
-pub read-word-requires-clause-may : goal.read-word-requires-clause-may
-read-word-requires-clause-may g c =
-    (may_read (g.S.Steps.sizes c.args.steps.now) c.args.key.now c.args.self.now c.args.read_set.now (g.S.Steps.view c.args.steps.now) c.requires.fits
-    c.in-Anchor.stamp 1 (ap asks (sym c.stage.ensures ∙ c.in-Anchor.is))).1
+pub read_word-word-requires : goal.read_word-word-requires
+read_word-word-requires g c =
+    record {
+      allowed = may_read (g.S.Steps.sizes c.args.steps.now) c.args.key.now c.args.self.now c.args.read_set.now (g.S.Steps.view c.args.steps.now) c.requires.fits
+          c.in-Anchor.stamp 1 (ap asks (sym c.stage.ensures ∙ c.in-Anchor.is));
+    }
 
 pub hear_word-requires-clause-few : goal.hear_word-requires-clause-few
 hear_word-requires-clause-few g c = c.requires.few
@@ -57,22 +54,19 @@ hear_word-requires-clause-fits g c =
     (g.S.Steps.sizes c.args.steps.now, q.0, q.1, g.S.Steps.view c.args.steps.now, q.2)
 
 pub returns-in-Anchor-clause-only : goal.returns-in-Anchor-clause-only
-returns-in-Anchor-clause-only g c = c.read-word.ensures.only
+returns-in-Anchor-clause-only g c = c.read_word-word.ensures.only
 
 pub returns-in-Anchor-clause-looked : goal.returns-in-Anchor-clause-looked
 returns-in-Anchor-clause-looked g c =
-    c.hear_word.ensures.looked (g.S.Steps.sizes c.args.steps.now) (g.S.Steps.view c.args.steps.now) (g.S.Steps.view c.read-word.new.self)
-    c.read-word.ensures.row
+    c.hear_word.ensures.looked (g.S.Steps.sizes c.args.steps.now) (g.S.Steps.view c.args.steps.now) (g.S.Steps.view c.read_word-word.new.steps)
+    c.read_word-word.ensures.row
 
-pub read-word-requires-in-Header-clause-inside : goal.read-word-requires-in-Header-clause-inside
-read-word-requires-in-Header-clause-inside g c =
-    (may_read (g.S.Steps.sizes c.args.steps.now) c.args.key.now c.args.self.now c.args.read_set.now (g.S.Steps.view c.args.steps.now) c.requires.fits
-    c.in-Header.stamp 1 (ap asks (sym c.stage.ensures ∙ c.in-Header.is))).0
-
-pub read-word-requires-in-Header-clause-may : goal.read-word-requires-in-Header-clause-may
-read-word-requires-in-Header-clause-may g c =
-    (may_read (g.S.Steps.sizes c.args.steps.now) c.args.key.now c.args.self.now c.args.read_set.now (g.S.Steps.view c.args.steps.now) c.requires.fits
-    c.in-Header.stamp 1 (ap asks (sym c.stage.ensures ∙ c.in-Header.is))).1
+pub read_word-word-requires-in-Header : goal.read_word-word-requires-in-Header
+read_word-word-requires-in-Header g c =
+    record {
+      allowed = may_read (g.S.Steps.sizes c.args.steps.now) c.args.key.now c.args.self.now c.args.read_set.now (g.S.Steps.view c.args.steps.now) c.requires.fits
+          c.in-Header.stamp 1 (ap asks (sym c.stage.ensures ∙ c.in-Header.is));
+    }
 
 pub hear_word-requires-in-Header-clause-few : goal.hear_word-requires-in-Header-clause-few
 hear_word-requires-in-Header-clause-few g c = c.requires.few
@@ -94,22 +88,19 @@ hear_word-requires-in-Header-clause-fits g c =
     (g.S.Steps.sizes c.args.steps.now, q.0, q.1, g.S.Steps.view c.args.steps.now, q.2)
 
 pub returns-in-Header-clause-only : goal.returns-in-Header-clause-only
-returns-in-Header-clause-only g c = c.read-word-in-Header.ensures.only
+returns-in-Header-clause-only g c = c.read_word-word-in-Header.ensures.only
 
 pub returns-in-Header-clause-looked : goal.returns-in-Header-clause-looked
 returns-in-Header-clause-looked g c =
-    c.hear_word-in-Header.ensures.looked (g.S.Steps.sizes c.args.steps.now) (g.S.Steps.view c.args.steps.now) (g.S.Steps.view c.read-word-in-Header.new.self)
-    c.read-word-in-Header.ensures.row
+    c.hear_word-in-Header.ensures.looked (g.S.Steps.sizes c.args.steps.now) (g.S.Steps.view c.args.steps.now) (g.S.Steps.view c.read_word-word-in-Header.new.steps)
+    c.read_word-word-in-Header.ensures.row
 
-pub read-word-requires-in-Prefix-clause-inside : goal.read-word-requires-in-Prefix-clause-inside
-read-word-requires-in-Prefix-clause-inside g c =
-    (may_read (g.S.Steps.sizes c.args.steps.now) c.args.key.now c.args.self.now c.args.read_set.now (g.S.Steps.view c.args.steps.now) c.requires.fits
-    c.in-Prefix.seen.stamp (2 + c.from-place.result) (ap asks (sym c.stage.ensures ∙ c.in-Prefix.is) ∙ ap (λ (i : ℕ). Some (Read c.in-Prefix.seen.stamp (2 + i))) (sym c.from-place.ensures))).0
-
-pub read-word-requires-in-Prefix-clause-may : goal.read-word-requires-in-Prefix-clause-may
-read-word-requires-in-Prefix-clause-may g c =
-    (may_read (g.S.Steps.sizes c.args.steps.now) c.args.key.now c.args.self.now c.args.read_set.now (g.S.Steps.view c.args.steps.now) c.requires.fits
-    c.in-Prefix.seen.stamp (2 + c.from-place.result) (ap asks (sym c.stage.ensures ∙ c.in-Prefix.is) ∙ ap (λ (i : ℕ). Some (Read c.in-Prefix.seen.stamp (2 + i))) (sym c.from-place.ensures))).1
+pub read_word-word-requires-in-Prefix : goal.read_word-word-requires-in-Prefix
+read_word-word-requires-in-Prefix g c =
+    record {
+      allowed = may_read (g.S.Steps.sizes c.args.steps.now) c.args.key.now c.args.self.now c.args.read_set.now (g.S.Steps.view c.args.steps.now) c.requires.fits
+          c.in-Prefix.seen.stamp (2 + c.from-place.result) (ap asks (sym c.stage.ensures ∙ c.in-Prefix.is) ∙ ap (λ (i : ℕ). Some (Read c.in-Prefix.seen.stamp (2 + i))) (sym c.from-place.ensures));
+    }
 
 pub hear_word-requires-in-Prefix-clause-few : goal.hear_word-requires-in-Prefix-clause-few
 hear_word-requires-in-Prefix-clause-few g c = c.requires.few
@@ -131,22 +122,19 @@ hear_word-requires-in-Prefix-clause-fits g c =
     (g.S.Steps.sizes c.args.steps.now, q.0, q.1, g.S.Steps.view c.args.steps.now, q.2)
 
 pub returns-in-Prefix-clause-only : goal.returns-in-Prefix-clause-only
-returns-in-Prefix-clause-only g c = c.read-word-in-Prefix.ensures.only
+returns-in-Prefix-clause-only g c = c.read_word-word-in-Prefix.ensures.only
 
 pub returns-in-Prefix-clause-looked : goal.returns-in-Prefix-clause-looked
 returns-in-Prefix-clause-looked g c =
-    c.hear_word-in-Prefix.ensures.looked (g.S.Steps.sizes c.args.steps.now) (g.S.Steps.view c.args.steps.now) (g.S.Steps.view c.read-word-in-Prefix.new.self)
-    c.read-word-in-Prefix.ensures.row
+    c.hear_word-in-Prefix.ensures.looked (g.S.Steps.sizes c.args.steps.now) (g.S.Steps.view c.args.steps.now) (g.S.Steps.view c.read_word-word-in-Prefix.new.steps)
+    c.read_word-word-in-Prefix.ensures.row
 
-pub read-word-requires-in-Keys-clause-inside : goal.read-word-requires-in-Keys-clause-inside
-read-word-requires-in-Keys-clause-inside g c =
-    (may_read (g.S.Steps.sizes c.args.steps.now) c.args.key.now c.args.self.now c.args.read_set.now (g.S.Steps.view c.args.steps.now) c.requires.fits
-    c.in-Keys.seen.stamp (10 + c.from-place-in-Keys.result) (ap asks (sym c.stage.ensures ∙ c.in-Keys.is) ∙ ap (λ (i : ℕ). Some (Read c.in-Keys.seen.stamp (10 + i))) (sym c.from-place-in-Keys.ensures))).0
-
-pub read-word-requires-in-Keys-clause-may : goal.read-word-requires-in-Keys-clause-may
-read-word-requires-in-Keys-clause-may g c =
-    (may_read (g.S.Steps.sizes c.args.steps.now) c.args.key.now c.args.self.now c.args.read_set.now (g.S.Steps.view c.args.steps.now) c.requires.fits
-    c.in-Keys.seen.stamp (10 + c.from-place-in-Keys.result) (ap asks (sym c.stage.ensures ∙ c.in-Keys.is) ∙ ap (λ (i : ℕ). Some (Read c.in-Keys.seen.stamp (10 + i))) (sym c.from-place-in-Keys.ensures))).1
+pub read_word-word-requires-in-Keys : goal.read_word-word-requires-in-Keys
+read_word-word-requires-in-Keys g c =
+    record {
+      allowed = may_read (g.S.Steps.sizes c.args.steps.now) c.args.key.now c.args.self.now c.args.read_set.now (g.S.Steps.view c.args.steps.now) c.requires.fits
+          c.in-Keys.seen.stamp (10 + c.from-place-in-Keys.result) (ap asks (sym c.stage.ensures ∙ c.in-Keys.is) ∙ ap (λ (i : ℕ). Some (Read c.in-Keys.seen.stamp (10 + i))) (sym c.from-place-in-Keys.ensures));
+    }
 
 pub hear_word-requires-in-Keys-clause-few : goal.hear_word-requires-in-Keys-clause-few
 hear_word-requires-in-Keys-clause-few g c = c.requires.few
@@ -168,22 +156,19 @@ hear_word-requires-in-Keys-clause-fits g c =
     (g.S.Steps.sizes c.args.steps.now, q.0, q.1, g.S.Steps.view c.args.steps.now, q.2)
 
 pub returns-in-Keys-clause-only : goal.returns-in-Keys-clause-only
-returns-in-Keys-clause-only g c = c.read-word-in-Keys.ensures.only
+returns-in-Keys-clause-only g c = c.read_word-word-in-Keys.ensures.only
 
 pub returns-in-Keys-clause-looked : goal.returns-in-Keys-clause-looked
 returns-in-Keys-clause-looked g c =
-    c.hear_word-in-Keys.ensures.looked (g.S.Steps.sizes c.args.steps.now) (g.S.Steps.view c.args.steps.now) (g.S.Steps.view c.read-word-in-Keys.new.self)
-    c.read-word-in-Keys.ensures.row
+    c.hear_word-in-Keys.ensures.looked (g.S.Steps.sizes c.args.steps.now) (g.S.Steps.view c.args.steps.now) (g.S.Steps.view c.read_word-word-in-Keys.new.steps)
+    c.read_word-word-in-Keys.ensures.row
 
-pub read-word-requires-in-Slot-clause-inside : goal.read-word-requires-in-Slot-clause-inside
-read-word-requires-in-Slot-clause-inside g c =
-    (may_read (g.S.Steps.sizes c.args.steps.now) c.args.key.now c.args.self.now c.args.read_set.now (g.S.Steps.view c.args.steps.now) c.requires.fits
-    c.in-Slot.seen.stamp c.in-Slot.place (ap asks (sym c.stage.ensures ∙ c.in-Slot.is))).0
-
-pub read-word-requires-in-Slot-clause-may : goal.read-word-requires-in-Slot-clause-may
-read-word-requires-in-Slot-clause-may g c =
-    (may_read (g.S.Steps.sizes c.args.steps.now) c.args.key.now c.args.self.now c.args.read_set.now (g.S.Steps.view c.args.steps.now) c.requires.fits
-    c.in-Slot.seen.stamp c.in-Slot.place (ap asks (sym c.stage.ensures ∙ c.in-Slot.is))).1
+pub read_word-word-requires-in-Slot : goal.read_word-word-requires-in-Slot
+read_word-word-requires-in-Slot g c =
+    record {
+      allowed = may_read (g.S.Steps.sizes c.args.steps.now) c.args.key.now c.args.self.now c.args.read_set.now (g.S.Steps.view c.args.steps.now) c.requires.fits
+          c.in-Slot.seen.stamp c.in-Slot.place (ap asks (sym c.stage.ensures ∙ c.in-Slot.is));
+    }
 
 pub hear_word-requires-in-Slot-clause-few : goal.hear_word-requires-in-Slot-clause-few
 hear_word-requires-in-Slot-clause-few g c = c.requires.few
@@ -205,12 +190,12 @@ hear_word-requires-in-Slot-clause-fits g c =
     (g.S.Steps.sizes c.args.steps.now, q.0, q.1, g.S.Steps.view c.args.steps.now, q.2)
 
 pub returns-in-Slot-clause-only : goal.returns-in-Slot-clause-only
-returns-in-Slot-clause-only g c = c.read-word-in-Slot.ensures.only
+returns-in-Slot-clause-only g c = c.read_word-word-in-Slot.ensures.only
 
 pub returns-in-Slot-clause-looked : goal.returns-in-Slot-clause-looked
 returns-in-Slot-clause-looked g c =
-    c.hear_word-in-Slot.ensures.looked (g.S.Steps.sizes c.args.steps.now) (g.S.Steps.view c.args.steps.now) (g.S.Steps.view c.read-word-in-Slot.new.self)
-    c.read-word-in-Slot.ensures.row
+    c.hear_word-in-Slot.ensures.looked (g.S.Steps.sizes c.args.steps.now) (g.S.Steps.view c.args.steps.now) (g.S.Steps.view c.read_word-word-in-Slot.new.steps)
+    c.read_word-word-in-Slot.ensures.row
 
 pub read_leaf_on-requires-clause-few : goal.read_leaf_on-requires-clause-few
 read_leaf_on-requires-clause-few g c = c.requires.few

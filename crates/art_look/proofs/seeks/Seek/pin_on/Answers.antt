@@ -4,7 +4,7 @@ use Rattle.art_machine.proofs.Counting.{pinning_counts}
 use Rattle.art_epoch.specs.Pins as pins
 use Rattle.art_machine.specs.declared.actions.Action.{Action}
 use Rattle.art_machine.specs.declared.actions.Action.TheVariants.{ReadEpoch, StorePin}
-use Rattle.art_epoch.specs.declared.pins.Pinning.{Pinning as PinningOf}
+use Rattle.art_epoch.specs.declared.enter.Pinning.{Pinning as PinningOf}
 use Rattle.art_key.specs.declared.bounds.Bound.{Bound as KeyBound}
 use Rattle.art_look.specs.declared.path_buffers.PathBuffer.{PathBuffer as PathBufferOf}
 use Rattle.art_look.specs.Seeks.{Fits, GoesTo, IsPinning, StageFits, WillBeBusy, busy_at, left_at, steps_left}

@@ -1,5 +1,5 @@
 use Rattle.std.proofs.Common.{◌+◌, arith}
-use Rattle.art_cell.specs.declared.layouts.Layout.TheVariants.{Node256}
+use Rattle.art_cell.specs.declared.cells.Layout.TheVariants.{Node256}
 use Rattle.art_cell.specs.Words.{child_of}
 use Rattle.art_cell.specs.Lemmas.Entries.{none_from_more}
 use Rattle.art_node256.proofs.kind.Node256NodeKind.at_least.Goals as goal

@@ -1,5 +1,5 @@
 use Rattle.std.proofs.Common.{◌≡◌, ◌≢◌, ℕ, ◌+◌, List, [], ◌∷◌, ◌++◌, length, sym, ap, ◌∙◌, arith}
-use Rattle.art_cell.specs.declared.layouts.Layout.TheVariants.{Node256}
+use Rattle.art_cell.specs.declared.cells.Layout.TheVariants.{Node256}
 use Rattle.art_cell.specs.declared.node_kinds.Entry.{Entry}
 use Rattle.art_cell.specs.Words.{Words, nonzero, child_of, listed}
 use Rattle.art_cell.specs.Reads.{word_of}

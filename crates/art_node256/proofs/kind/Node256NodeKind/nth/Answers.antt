@@ -1,5 +1,5 @@
 use Rattle.std.proofs.Common.{◌≡◌, ◌≢◌, ℕ, ◌+◌, Option, take, ap, subst, sym, ◌∙◌, arith}
-use Rattle.art_cell.specs.declared.layouts.Layout.TheVariants.{Node256}
+use Rattle.art_cell.specs.declared.cells.Layout.TheVariants.{Node256}
 use Rattle.art_cell.specs.Lemmas.Entries.{listed_without, nth_listed, no_nth_listed, nonzero_some}
 use Rattle.art_cell.specs.Reads.{word_of}
 use Rattle.art_cell.specs.Words.{child_of, entries, listed, nonzero}

@@ -1,8 +1,8 @@
 use Rattle.std.proofs.Common.{◌∙◌, ℕ, List, ap, sym, subst, arith}
 use Rattle.art_cell.specs.Reads.{IsPlan, with_child, word_of}
 use Rattle.art_cell.specs.Words.{child_of}
-use Rattle.art_cell.specs.declared.layouts.Layout.TheVariants.{Node256}
-use Rattle.art_cell.specs.declared.writes.Write.{Write}
+use Rattle.art_cell.specs.declared.cells.Layout.TheVariants.{Node256}
+use Rattle.art_cell.specs.declared.cells.Write.{Write}
 use Rattle.art_node256.specs.Changes.{child_words}
 use Rattle.art_node256.proofs.Writes.{child_plan}
 use Rattle.art_node256.proofs.kind.Node256NodeKind.plan_set.Goals as goal

@@ -1,5 +1,5 @@
 use Rattle.std.proofs.Common.{◌+◌, arith}
-use Rattle.art_cell.specs.declared.layouts.Layout.TheVariants.{Node48}
+use Rattle.art_cell.specs.declared.cells.Layout.TheVariants.{Node48}
 use Rattle.art_cell.specs.Words.{child_of}
 use Rattle.art_node48.proofs.Index.{none_more}
 use Rattle.art_node48.proofs.node48.Node48NodeKind.at_least.Goals as goal

@@ -1,5 +1,5 @@
 use Rattle.std.proofs.Common.{rules, ◌+◌, ◌∙◌, ap, sym, arith, inl, inr}
-use Rattle.art_cell.specs.declared.layouts.Layout.TheVariants.{Node48}
+use Rattle.art_cell.specs.declared.cells.Layout.TheVariants.{Node48}
 use Rattle.art_cell.specs.Words.{child_of}
 use Rattle.art_cell.specs.Reads.{word_of}
 use Rattle.art_node48.proofs.Index.{ListsByte, listed_to, lists_few}

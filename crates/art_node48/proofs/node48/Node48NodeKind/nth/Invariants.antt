@@ -1,5 +1,5 @@
 use Rattle.std.proofs.Common.{◌≡◌, take}
-use Rattle.art_cell.specs.declared.layouts.Layout.TheVariants.{Node48}
+use Rattle.art_cell.specs.declared.cells.Layout.TheVariants.{Node48}
 use Rattle.art_cell.specs.Words.{child_of, entries, listed}
 use Rattle.art_cell.specs.Reads.{word_of}
 use Rattle.art_node48.proofs.node48.Node48NodeKind.nth.Given as goal

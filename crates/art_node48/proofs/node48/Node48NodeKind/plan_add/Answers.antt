@@ -2,8 +2,8 @@ use Rattle.std.proofs.Common.{◌+◌, ◌*◌, ◌^◌, ◌%◌, ◌<◌, List,
 use Rattle.art_cell.specs.Bodies.{TakesPlace}
 use Rattle.art_cell.specs.Reads.{IsPlan, with_child, word_of, written}
 use Rattle.art_cell.specs.Words.{indexed_child}
-use Rattle.art_cell.specs.declared.layouts.Layout.TheVariants.{Node48}
-use Rattle.art_cell.specs.declared.writes.Write.{Write}
+use Rattle.art_cell.specs.declared.cells.Layout.TheVariants.{Node48}
+use Rattle.art_cell.specs.declared.cells.Write.{Write}
 use Rattle.art_node48.proofs.Plans.{three_exact, three_outside, three_wrote}
 use Rattle.art_node48.proofs.Steps.{becomes_added, full_where_all, header_more, header_uses, no_entry, not_full, takes_lowest}
 use Rattle.art_node48.proofs.node48.Node48NodeKind.plan_add.Goals as goal

@@ -1,8 +1,8 @@
 use Rattle.std.proofs.Common.{◌-◌, ◌+◌, ◌*◌, ◌^◌, ◌%◌, ◌<◌, List, refl, sym, subst, arith}
 use Rattle.art_cell.specs.Reads.{IsPlan, without_child, word_of}
 use Rattle.art_cell.specs.Words.{indexed_child}
-use Rattle.art_cell.specs.declared.layouts.Layout.TheVariants.{Node48}
-use Rattle.art_cell.specs.declared.writes.Write.{Write}
+use Rattle.art_cell.specs.declared.cells.Layout.TheVariants.{Node48}
+use Rattle.art_cell.specs.declared.cells.Write.{Write}
 use Rattle.art_node48.proofs.Plans.{three_exact, three_outside, three_wrote}
 use Rattle.art_node48.proofs.Steps.{becomes_taken, entry_some, header_frees, header_less, stands}
 use Rattle.art_node48.proofs.node48.Node48NodeKind.plan_drop.Goals as goal

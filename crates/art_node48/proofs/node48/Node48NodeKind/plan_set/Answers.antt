@@ -1,9 +1,9 @@
 use Rattle.std.proofs.Common.{◌≡◌, ◌==◌, ◌<◌, ◌≤◌, ◌-◌, ℕ, Bool, true, false, cond, List, [], ◌∷◌, length, Some, refl, sym, subst, arith}
-use Rattle.art_cell.specs.declared.bodies.Body.{Body}
+use Rattle.art_cell.specs.declared.cells.Body.{Body}
 use Rattle.art_cell.specs.Reads.{IsBodyOf, IsPlan, with_child, word_of}
 use Rattle.art_cell.specs.Words.{indexed_child, key_byte}
-use Rattle.art_cell.specs.declared.layouts.Layout.TheVariants.{Node48}
-use Rattle.art_cell.specs.declared.writes.Write.{Write}
+use Rattle.art_cell.specs.declared.cells.Layout.TheVariants.{Node48}
+use Rattle.art_cell.specs.declared.cells.Write.{Write}
 use Rattle.art_node48.specs.Changes.{child_words}
 use Rattle.art_node48.proofs.Plans.{child_plan}
 use Rattle.art_node48.proofs.Steps.{entry_some, stands}

@@ -3,7 +3,7 @@ use Rattle.art_world.specs.Stepper.{pass_of, view_of, world_of}
 use Rattle.art_step.specs.WordRows.{views_of}
 use Rattle.art_world.proofs.ViewLists.{at_view}
 use Rattle.std.proofs.Common.{◌≡◌, ◌∙◌, ◌+◌, ◌*◌, ◌/◌, ◌%◌, ◌^◌, ℕ, ap, ap₂, arith}
-use Rattle.art_cell.specs.declared.layouts.Pool.{Pool}
+use Rattle.art_cell.specs.declared.cells.Pool.{Pool}
 use Rattle.art_step.specs.Tokens.{link_of_number}
 use Rattle.art_step.specs.Views.{free_bit, free_index, pool_of}
 use Rattle.art_step.specs.WordPlaces.{first_free_word}

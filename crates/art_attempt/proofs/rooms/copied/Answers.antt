@@ -1,5 +1,0 @@
-use Rattle.std.proofs.Common.{arith}
-use Rattle.art_attempt.proofs.rooms.copied.Goals as goal
-
-pub returns-clause-key : goal.returns-clause-key
-returns-clause-key c = record { bytes = λ i. omega (arith, c.type_inv.bytes i); short = c.requires }

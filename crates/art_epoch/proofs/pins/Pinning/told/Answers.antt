@@ -1,5 +1,0 @@
-use Rattle.std.proofs.Common.{rules}
-use Rattle.art_epoch.proofs.pins.Pinning.told.Goals as goal
-
-pub returns-in-Noting-clause-fits : goal.returns-in-Noting-clause-fits
-returns-in-Noting-clause-fits c = search rules

@@ -1,4 +1,0 @@
-use Rattle.art_epoch.proofs.pins.unpin.Goals as goal
-
-pub returns-clause-row : goal.returns-clause-row
-returns-clause-row g c = assumption c

@@ -1,5 +1,0 @@
-use Rattle.std.proofs.Common.{rules}
-use Rattle.art_epoch.proofs.reclaiming.retire.Goals as goal
-
-pub returns-clause-retires : goal.returns-clause-retires
-returns-clause-retires g c = search rules

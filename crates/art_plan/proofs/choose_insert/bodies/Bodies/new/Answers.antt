@@ -1,5 +1,0 @@
-use Rattle.std.proofs.Common.{refl}
-use Rattle.art_plan.proofs.choose_insert.bodies.Bodies.new.Goals as goal
-
-pub returns-clause-node : goal.returns-clause-node
-returns-clause-node c = refl

@@ -1,5 +1,0 @@
-use Rattle.std.proofs.Common.{rules}
-use Rattle.art_plan.proofs.parts.put.Goals as goal
-
-pub loop-write-init : goal.loop-write-init
-loop-write-init c = search rules
