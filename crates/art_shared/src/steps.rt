@@ -8,10 +8,10 @@ ghost use prog.Atomic.{either};
 ghost use Rattle.art_shared.specs.SamePass.{SamePass};
 ghost use Rattle.art_shared.specs.Turns.{MayTurn, Turn};
 
-use crate::stepper::Stepper;
 use crate::pass::Pass;
 use crate::shared::Shared;
 use crate::shows::{Shows, Told};
+use crate::stepper::Stepper;
 use art_cell::{Cell, Link, Node, Pool};
 use art_step::{
     Changed, Deed, EpochSteps, Held, Locked, Number, Sizes, Stamp, Steps, Unlinked, UpgradeFault,
