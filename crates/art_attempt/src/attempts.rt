@@ -155,6 +155,7 @@ impl Attempt {
     }
 
     /// Makes its steps, stage after stage, but for one that tells its event before a change is made.
+    #[inline(always)]
     pub fn hurry<S: EpochSteps>(&mut self, steps: &mut S, room: &mut Room, left: &mut u32)
         requires turn { is_free self.old ≡ true → 0 < left.old }
         requires admitted { S.admits steps.old room.old.row.key.items }

@@ -76,27 +76,13 @@ exit_going exit.Labelling s going = (ReadEpoch, refl)
 exit_going exit.Giving s going = (exits.gives s, refl)
 exit_going exit.Ended s going = absurd (cc)
 
--- ---- what such a step is
+-- and one that asks for none has
+pub exit_over : (m : Exit) (s : Stock) → exits.asks m s ≡ None → m ≡ exit.Ended
+exit_over exit.Labelling s none = absurd (cc)
+exit_over exit.Giving s none = absurd (cc)
+exit_over exit.Ended s none = refl
 
-pub frame_plain : (a : Action) → IsFrame a → IsPlain a
-frame_plain (Begin x) is = absurd is
-frame_plain (Read x i) is = absurd is
-frame_plain (ReadLeaf x l i) is = absurd is
-frame_plain (Check x) is = absurd is
-frame_plain (Settle x) is = absurd is
-frame_plain (Upgrade x) is = absurd is
-frame_plain (Claim n) is = absurd is
-frame_plain (Write b i word) is = absurd is
-frame_plain (WriteLeaf l i word) is = absurd is
-frame_plain (Commit b o) is = absurd is
-frame_plain (Release b o) is = absurd is
-frame_plain (ClearBit p i o) is = absurd is
-frame_plain (GiveBack d) is = tt
-frame_plain (Free d) is = tt
-frame_plain ReadEpoch is = tt
-frame_plain (StorePin word) is = tt
-frame_plain RaiseEpoch is = tt
-frame_plain (ReadPin q) is = tt
+-- ---- what such a step is
 
 pub frame_one : (z : Sizes) (a : Action) (r : Answer) (v w : View) → IsFrame a → Answers z None a r v w → w.steps ≡ v.steps + 1
 frame_one z (Begin x) r v w is row = absurd is

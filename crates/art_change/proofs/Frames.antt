@@ -8,7 +8,7 @@ use Rattle.art_attempt.specs.Trying.{StillTries}
 use Rattle.art_attempt.specs.declared.attempts.Room.{Room}
 use Rattle.art_change.proofs.Endings.{left_by, left_since}
 use Rattle.art_change.proofs.Staged.{asked_at, fits_at, made_at, steps_at}
-use Rattle.art_change.specs.Writes.{Answers, Fits, HasBegun, StageFits, asks, asks_at, brings_at, left_at, steps_left as write_left, IsExiting, IsDone, IsEntering, OutcomeBy, given, gone_by, or_busy, outcome_of}
+use Rattle.art_change.specs.Writes.{Answers, Fits, HasBegun, StageFits, asks, asks_at, brings_at, left_at, steps_left as write_left, IsExiting, IsDone, IsEntering, IsUntried, OutcomeBy, SameRow, given, gone_by, or_busy, outcome_of}
 use Rattle.art_attempt.specs.declared.attempts.Job.{Job}
 use Rattle.art_attempt.specs.declared.attempts.Ending.{Ending}
 use Rattle.art_attempt.specs.declared.attempts.Ending.TheVariants as ending
@@ -46,17 +46,32 @@ given_has : (z : Sizes) (o : Option Link) (u : View) (r : Room) → HasHand z u 
 given_has z (Some d) u r has = stock_hinted z r.row.key.items r.row.value u d r.stock has
 given_has z None u r has = has
 
-pub given_enter : (z : Sizes) (u : View) (ps : List Place) (m : Write) (e : Enter) (o : Option Link) (r : Room) (qs : List Place) (v : View) → IsEntering z u ps m e r qs v
-    → IsEntering z u ps m e (given o r) qs v
-given_enter z u ps m e o r qs v i = record {
-  enter = i.enter;
-  going = i.going;
+pub given_same : (o : Option Link) (r : Room) → SameRow r (given o r)
+given_same (Some d) r = record { key = refl; value = refl }
+given_same None r = record { key = refl; value = refl }
+
+-- nor on how many steps of it were made, and at which of them it stands
+pub later_untried : (z : Sizes) (u : View) (m : Write) (s : Stage) (r : Room) (v w : View) → v.steps ≤ w.steps → IsUntried z u m r v → IsUntried z u (record m { stage = s }) r w
+later_untried z u m s r v w on i = record {
+  free = i.free;
+  has = i.has;
+  later = let before = i.later in omega (arith, on, before);
+  full = i.full;
+  fresh = i.fresh;
+}
+
+pub given_untried : (z : Sizes) (o : Option Link) (u : View) (m : Write) (r : Room) (v : View) → IsUntried z u m r v → IsUntried z u m (given o r) v
+given_untried z o u m r v i = record {
   free = i.free;
   has = given_has z o u r i.has;
   later = i.later;
   full = i.full;
   fresh = i.fresh;
 }
+
+pub given_enter : (z : Sizes) (u : View) (ps : List Place) (m : Write) (e : Enter) (o : Option Link) (r : Room) (qs : List Place) (v : View) → IsEntering z u ps m e r qs v
+    → IsEntering z u ps m e (given o r) qs v
+given_enter z u ps m e o r qs v i = record { enter = i.enter; going = i.going; untried = given_untried z o u m r v i.untried }
 
 -- so the opening goes on in a room that is as it was but for that
 module _ (m : Write) (e : Enter) (at : m.stage ≡ stages.Enter e) (o : Option Link) (r s : Room) (is : s ≡ given o r) where

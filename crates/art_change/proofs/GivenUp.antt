@@ -211,7 +211,7 @@ module _ (z : Sizes) (u : View) (ps : List Place) (m : Write) (r : Room) (qs : L
   refused_free : (s : Stage) → refuses_at s m.left → StageFits z u ps s m r qs v → HoldsOrTold u v → ⊥
   refused_free (stages.Enter e) refuses fits =
       let same = enter_same z u v ps qs e fits.enter fits.going in
-      free_untold u v (same.0 ∙ fits.free) same.1
+      free_untold u v (same.0 ∙ fits.untried.free) same.1
   refused_free (stages.Trying t) refuses fits = absurd refuses
   refused_free (stages.Exit x o) refuses fits = exit_free x o fits.0 refuses
   refused_free (stages.Ended o) refuses fits = done_free o fits refuses

@@ -1,7 +1,6 @@
 -- Each step of a write is as many as its answer says; those of its frame bring nothing about.
-use Rattle.std.proofs.Common.{◌≡◌, ◌≢◌, ◌+◌, ◌≤◌, List, Some, None, refl, arith}
+use Rattle.std.proofs.Common.{◌≡◌, ◌+◌, ◌≤◌, List, Some, None, arith}
 use Rattle.art_attempt.proofs.Counts.{attempt_steps}
-use Rattle.art_attempt.specs.declared.attempts.Attempt.{Attempt}
 use Rattle.art_attempt.specs.declared.attempts.Room.{Room}
 use Rattle.art_change.proofs.FrameSteps.{IsFrame, exit_frame, frame_one, enter_frame}
 use Rattle.art_change.specs.Writes.{Answers, Fits, StageFits, asks, asks_at, brings_at}
@@ -15,20 +14,6 @@ use Rattle.art_machine.specs.declared.actions.Action.{Action}
 use Rattle.art_machine.specs.declared.actions.Answer.{Answer}
 use Rattle.art_step.specs.declared.views.Sizes.{Sizes}
 use Rattle.art_step.specs.declared.views.View.{View}
-
--- before and after its attempts it asks for steps of its frame
-module _ (r : Room) (a : Action) where
-  pub framed : (s : Stage) (qs : List Place) → ((t : Attempt) → s ≢ stage.Trying t) → asks_at s r qs ≡ Some a → IsFrame a
-  framed (stage.Enter e) qs not is = enter_frame e qs a is
-  framed (stage.Trying t) qs not is = absurd (not t refl)
-  framed (stage.Exit x o) qs not is = exit_frame x r.stock a is
-  framed (stage.Ended o) qs not is = absurd (cc)
-
-  pub frame_brings : (s : Stage) → ((t : Attempt) → s ≢ stage.Trying t) → brings_at s r a ≡ None
-  frame_brings (stage.Enter e) not = refl
-  frame_brings (stage.Trying t) not = absurd (not t refl)
-  frame_brings (stage.Exit x o) not = refl
-  frame_brings (stage.Ended o) not = refl
 
 module _ (z : Sizes) (u : View) (ps : List Place) (m : Write) (r : Room) (qs : List Place) (v w : View) (a : Action) (answer : Answer) where
   frame_few : IsFrame a → acting.Answers z None a answer v w → w.steps ≤ v.steps + 1

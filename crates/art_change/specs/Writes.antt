@@ -78,6 +78,20 @@ outcome_at s = None
 abbrev pub ended_at : Write → Option Outcome
 ended_at m = outcome_at m.stage
 
+-- its opening is made
+abbrev pub HasEntered : Stage → Type 0
+HasEntered (stage.Enter e) = ⊥
+HasEntered (stage.Trying t) = ⊤
+HasEntered (stage.Exit x o) = ⊤
+HasEntered (stage.Ended o) = ⊤
+
+-- it stands in an attempt, or has ended: no step of its opening or of its close comes next
+abbrev pub HasNoFrame : Stage → Type 0
+HasNoFrame (stage.Enter e) = ⊥
+HasNoFrame (stage.Trying t) = ⊤
+HasNoFrame (stage.Exit x o) = ⊥
+HasNoFrame (stage.Ended o) = ⊤
+
 -- ---- what its steps bring about
 
 -- of an attempt what that has settled or planned; a step of the frame brings nothing about
@@ -185,14 +199,18 @@ pub record MayWrite (z : Sizes) (u : View) (own : ℕ) (ps : List Place) (r : Ro
   pub room : IsRoom z r
   pub has : HasHand z u r
 
-pub record IsEntering (z : Sizes) (u : View) (ps : List Place) (m : Write) (e : Enter) (r : Room) (qs : List Place) (v : View) : Type 0 where
-  pub enter : EnterFits z u ps e qs v
-  pub going : enters.ended_at e ≡ None
+-- it was not tried yet: nothing is held, and all turns are left
+pub record IsUntried (z : Sizes) (u : View) (m : Write) (r : Room) (v : View) : Type 0 where
   pub free : u.held ≡ []
   pub has : HasHand z u r
   pub later : u.steps ≤ v.steps
   pub full : m.left ≡ m.turns
   pub fresh : m.restarts ≡ 0
+
+pub record IsEntering (z : Sizes) (u : View) (ps : List Place) (m : Write) (e : Enter) (r : Room) (qs : List Place) (v : View) : Type 0 where
+  pub enter : EnterFits z u ps e qs v
+  pub going : enters.ended_at e ≡ None
+  pub untried : IsUntried z u m r v
 
 -- the pass was pinned, and no step was taken back
 pub record WasOpened (z : Sizes) (u opened : View) (ps qs : List Place) : Type 0 where

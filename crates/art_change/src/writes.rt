@@ -5,18 +5,19 @@ ghost use Rattle.art_attempt.specs.declared.attempts.Attempt.{Attempt as Attempt
 ghost use Rattle.art_attempt.specs.declared.attempts.Ending.TheVariants.{Restart as anew, Overlaps as attempt_overlaps};
 ghost use Rattle.art_attempt.specs.declared.attempts.Room.{Room as RoomOf};
 ghost use Rattle.art_change.specs.Writes.{Answers, Fits, HasAnswered, HasBegun, HasCounted, HasGround, IsAllowed, IsApart, IsReady};
-ghost use Rattle.art_change.specs.Writes.{IsSameWrite, IsTrying, MayWrite, OutcomeBy, OverlapsBy, RestartsBy, SameRow, WasOpened};
+ghost use Rattle.art_change.specs.Writes.{HasEntered, HasNoFrame, IsSameWrite, IsTrying, IsUntried, MayWrite, OutcomeBy, OverlapsBy, RestartsBy, SameRow, WasOpened};
 ghost use Rattle.art_change.specs.Writes.{HoldsOrTold, WillRefuse, freed_by, given, is_refusal, turns_used, asks, ended_at, gone_by};
 ghost use Rattle.art_change.specs.Writes.{most_steps, or_busy, outcome_in, outcome_of, steps_left, NoneOverlaps};
 ghost use Rattle.art_change.specs.declared.writes.Outcome.{Outcome as OutcomeOf};
 ghost use Rattle.art_change.specs.declared.writes.Outcome.TheVariants.{Overlaps as overlaps};
 ghost use Rattle.art_change.specs.declared.writes.Stage.TheVariants as stages;
+ghost use Rattle.art_epoch.specs.Enter.{HasEnded};
 ghost use Rattle.art_epoch.specs.Limbo.{places_of};
 ghost use Rattle.art_epoch.specs.declared.limbo.Place.{Place};
 ghost use Rattle.art_epoch.specs.declared.enter.Enter.{Enter as EnterOf};
 ghost use Rattle.art_epoch.specs.declared.exit.Exit.{Exit as ExitOf};
 ghost use Rattle.art_epoch.specs.declared.stocks.Stock.{Stock as StockOf};
-ghost use Rattle.art_machine.specs.Acting.{IsAllowed as IsActionAllowed, PassesAmong};
+ghost use Rattle.art_machine.specs.Acting.{PassesAmong};
 ghost use Rattle.art_machine.specs.declared.actions.Action.{Action as ActionOf};
 ghost use Rattle.art_step.specs.declared.views.Sizes.{Sizes};
 ghost use Rattle.art_step.specs.declared.views.View.{View};
@@ -248,10 +249,8 @@ impl Write {
         requires asks { asks self.old room.old (places_of limbo.old) ≡ Some asked }
         requires told { (z : Sizes) × (u : View) × (v : View) × (w : View) × (ps : List Place) ×
             Fits z u ps self.old room.old (places_of limbo.old) v × Answers z self.old room.old asked answer v w }
-        ensures job { self.new.job ≡ self.old.job }
-        ensures turns { self.new.turns ≡ self.old.turns }
+        ensures same { IsSameWrite self.old room.old self.new room.new }
         ensures restarts { self.new.restarts ≡ self.old.restarts }
-        ensures refuses { self.old.left ≡ 0 → WillRefuse self.new }
         ensures apart { IsApart self.new }
         ensures hints { room.new ≡ given (freed_by asked) room.old }
         ensures left { steps_left self.new room.new (places_of limbo.new) < steps_left self.old room.old (places_of limbo.old) }
@@ -268,10 +267,8 @@ impl Write {
         requires told { (z : Sizes) × (u : View) × (v : View) × (w : View) × (ps : List Place) × (asked : ActionOf) ×
             Fits z u ps self.old room.now (places_of limbo.old) v × (asks self.old room.now (places_of limbo.old) ≡ Some asked) ×
             Answers z self.old room.now asked answer v w }
-        ensures job { self.new.job ≡ self.old.job }
-        ensures turns { self.new.turns ≡ self.old.turns }
+        ensures same { IsSameWrite self.old room.now self.new room.now }
         ensures restarts { self.new.restarts ≡ self.old.restarts }
-        ensures refuses { self.old.left ≡ 0 → WillRefuse self.new }
         ensures apart { IsApart self.new }
         ensures left { steps_left self.new room.now (places_of limbo.new) < steps_left self.old room.now (places_of limbo.old) }
         ensures fits { (z : Sizes) (u v w : View) (ps : List Place) (asked : ActionOf) →
@@ -284,14 +281,30 @@ impl Write {
         enter.told(limbo, answer);
         match enter.ended() {
             None => {}
-            Some(Entered::Pinned) => self.go_on(room),
-            Some(Entered::Crowded(blocker)) => self.stage = Stage::Ended(Outcome::Crowded(blocker)),
+            Some(entered) => self.entered(room, entered),
+        }
+    }
+
+    /// The opening has ended so: the first attempt is made, or limbo was crowded.
+    #[inline(always)]
+    fn entered(&mut self, room: &Room, entered: Entered)
+        ensures kept { (self.new.job ≡ self.old.job) × (self.new.turns ≡ self.old.turns) × (self.new.restarts ≡ self.old.restarts) }
+        ensures refuses { self.old.left ≡ 0 → WillRefuse self.new }
+        ensures apart { IsApart self.new }
+        ensures entered { HasEntered self.new.stage }
+        ensures left { (qs : List Place) → steps_left self.new room.now qs ≤ tries_left self.old.left + 7 }
+        ensures fits { (z : Sizes) (u v : View) (ps qs : List Place) → IsRoom z room.now → IsUntried z u self.old room.now v →
+            HasEnded z u v ps qs entered → Fits z u ps self.new room.now qs v }
+    {
+        match entered {
+            Entered::Pinned => self.go_on(room),
+            Entered::Crowded(blocker) => self.stage = Stage::Ended(Outcome::Crowded(blocker)),
         }
     }
 
     /// An attempt is made, where turns are left: the first, or another.
     fn go_on(&mut self, room: &Room)
-        ensures going { ended_at self.new ≡ None }
+        ensures going { (ended_at self.new ≡ None) × HasEntered self.new.stage }
         ensures job { self.new.job ≡ self.old.job }
         ensures turns { self.new.turns ≡ self.old.turns }
         ensures restarts { self.new.restarts ≡ self.old.restarts }
@@ -311,7 +324,7 @@ impl Write {
 
     /// The last attempt has ended so: the frame is closed.
     fn begin_exit(&mut self, room: &Room, outcome: Outcome)
-        ensures going { ended_at self.new ≡ None }
+        ensures going { (ended_at self.new ≡ None) × HasEntered self.new.stage }
         ensures refuses { is_refusal outcome ≡ true → WillRefuse self.new }
         ensures job { self.new.job ≡ self.old.job }
         ensures turns { self.new.turns ≡ self.old.turns }
@@ -327,7 +340,8 @@ impl Write {
         self.stage = Stage::Exit { exit, outcome };
     }
 
-    /// Makes its steps, as far as nothing stops it: those of the opening, of an attempt, and of the close.
+    /// Makes its steps, as far as nothing stops it: those of the opening, of an attempt, and of the close. What comes next is no step of its
+    /// opening or of its close.
     #[inline(never)]
     pub(crate) fn hurry<S: EpochSteps>(&mut self, steps: &mut S, room: &mut Room, limbo: &mut Limbo)
         requires admitted { S.admits steps.old room.old.row.key.items }
@@ -335,6 +349,7 @@ impl Write {
             Fits (S.sizes steps.old) u ps self.old room.old (places_of limbo.old) (S.view steps.old) }
         ensures only { S.only steps.old steps.new }
         ensures same { IsSameWrite self.old room.old self.new room.new }
+        ensures framed { HasNoFrame self.new.stage }
         ensures later { (S.view steps.old).steps ≤ (S.view steps.new).steps }
         ensures left { (S.view steps.new).steps + steps_left self.new room.new (places_of limbo.new) ≤
             (S.view steps.old).steps + steps_left self.old room.old (places_of limbo.old) }
@@ -343,9 +358,41 @@ impl Write {
             Fits (S.sizes steps.old) u ps self.new room.new (places_of limbo.new) (S.view steps.new) }
     {
         // each goes on where the one before it ended, with no step of the machine in between
-        self.frame_on(steps, room, limbo);
+        self.enter_all(steps, room, limbo);
         self.attempt_on(steps, room);
-        self.frame_on(steps, room, limbo);
+        self.exit_all(steps, room, limbo);
+    }
+
+    /// Makes the steps of its opening, one after another, if it stands there. Where a number goes back, the next search of its pool begins
+    /// at its word.
+    #[inline(always)]
+    fn enter_all<S: EpochSteps>(&mut self, steps: &mut S, room: &mut Room, limbo: &mut Limbo)
+        requires fits { (u : View) × (ps : List Place) ×
+            Fits (S.sizes steps.old) u ps self.old room.old (places_of limbo.old) (S.view steps.old) }
+        ensures only { S.only steps.old steps.new }
+        ensures same { IsSameWrite self.old room.old self.new room.new }
+        ensures entered { HasEntered self.new.stage }
+        ensures later { (S.view steps.old).steps ≤ (S.view steps.new).steps }
+        ensures left { (S.view steps.new).steps + steps_left self.new room.new (places_of limbo.new) ≤
+            (S.view steps.old).steps + steps_left self.old room.old (places_of limbo.old) }
+        ensures fits { (u : View) (ps : List Place) →
+            Fits (S.sizes steps.old) u ps self.old room.old (places_of limbo.old) (S.view steps.old) →
+            Fits (S.sizes steps.old) u ps self.new room.new (places_of limbo.new) (S.view steps.new) }
+    {
+        let Stage::Enter(enter) = self.stage else {
+            return;
+        };
+        // a copy of its own stays in registers while it runs
+        let mut running = enter;
+        while let Some(asked) = running.next(limbo) {
+            let answer = perform(steps, asked, None);
+            running.told(limbo, answer);
+            note_given(room, asked);
+        }
+        match running.ended() {
+            None => unreachable!(),
+            Some(entered) => self.entered(room, entered),
+        }
     }
 
     /// Makes the steps of its attempt, if it stands in one.
@@ -356,6 +403,7 @@ impl Write {
             Fits (S.sizes steps.old) u ps self.old room.old qs (S.view steps.old) }
         ensures only { S.only steps.old steps.new }
         ensures same { IsSameWrite self.old room.old self.new room.new }
+        ensures entered { HasEntered self.old.stage → HasEntered self.new.stage }
         ensures later { (S.view steps.old).steps ≤ (S.view steps.new).steps }
         ensures left { (qs : List Place) → (S.view steps.new).steps + steps_left self.new room.new qs ≤
             (S.view steps.old).steps + steps_left self.old room.old qs }
@@ -368,12 +416,14 @@ impl Write {
         }
     }
 
-    /// Makes the steps of its opening, or of its close, one after another.
-    fn frame_on<S: EpochSteps>(&mut self, steps: &mut S, room: &mut Room, limbo: &mut Limbo)
+    /// Makes the steps of its close, one after another, if it stands there.
+    #[inline(always)]
+    fn exit_all<S: EpochSteps>(&mut self, steps: &mut S, room: &mut Room, limbo: &mut Limbo)
         requires fits { (u : View) × (ps : List Place) ×
             Fits (S.sizes steps.old) u ps self.old room.old (places_of limbo.old) (S.view steps.old) }
         ensures only { S.only steps.old steps.new }
         ensures same { IsSameWrite self.old room.old self.new room.new }
+        ensures framed { HasEntered self.old.stage → HasNoFrame self.new.stage }
         ensures later { (S.view steps.old).steps ≤ (S.view steps.new).steps }
         ensures left { (S.view steps.new).steps + steps_left self.new room.new (places_of limbo.new) ≤
             (S.view steps.old).steps + steps_left self.old room.old (places_of limbo.old) }
@@ -381,44 +431,17 @@ impl Write {
             Fits (S.sizes steps.old) u ps self.old room.old (places_of limbo.old) (S.view steps.old) →
             Fits (S.sizes steps.old) u ps self.new room.new (places_of limbo.new) (S.view steps.new) }
     {
-        while let Some(asked) = self.frame_asked(room, limbo) {
+        let Stage::Exit { exit, outcome } = self.stage else {
+            return;
+        };
+        // a copy of its own stays in registers while it runs
+        let mut running = exit;
+        while let Some(asked) = running.next(&room.stock) {
             let answer = perform(steps, asked, None);
-            self.frame_told(room, limbo, asked, answer);
+            let Room { stock, change, .. } = room;
+            running.told(limbo, stock, gone_by(outcome, change), answer);
         }
-    }
-
-    /// What comes next of its opening, or of its close.
-    #[inline(always)]
-    fn frame_asked(&self, room: &Room, limbo: &Limbo) -> Option<Action>
-        ensures asks { IfSome result (λ a. asks self.now room.now (places_of limbo.now) ≡ Some a) }
-        ensures framed { IfSome result (λ a. (t : AttemptOf) → self.now.stage ≢ stages.Trying t) }
-        ensures allowed { (z : Sizes) (u v : View) (ps : List Place) → Fits z u ps self.now room.now (places_of limbo.now) v →
-            IfSome result (IsActionAllowed z None v) }
-    {
-        match &self.stage {
-            Stage::Enter(enter) => enter.next(limbo),
-            Stage::Exit { exit, .. } => exit.next(&room.stock),
-            Stage::Trying(_) | Stage::Ended(_) => None,
-        }
-    }
-
-    /// The step of its opening, or of its close, that it asked for was made, with this answer.
-    #[inline(always)]
-    fn frame_told(&mut self, room: &mut Room, limbo: &mut Limbo, asked: Action, answer: Answer)
-        requires framed { (t : AttemptOf) → self.old.stage ≢ stages.Trying t }
-        requires asks { asks self.old room.old (places_of limbo.old) ≡ Some asked }
-        requires told { (z : Sizes) × (u : View) × (v : View) × (w : View) × (ps : List Place) ×
-            Fits z u ps self.old room.old (places_of limbo.old) v × Answers z self.old room.old asked answer v w }
-        ensures same { IsSameWrite self.old room.old self.new room.new }
-        ensures left { steps_left self.new room.new (places_of limbo.new) < steps_left self.old room.old (places_of limbo.old) }
-        ensures fits { (z : Sizes) (u v w : View) (ps : List Place) → Fits z u ps self.old room.old (places_of limbo.old) v →
-            Answers z self.old room.old asked answer v w → Fits z u ps self.new room.new (places_of limbo.new) w }
-    {
-        match self.stage {
-            Stage::Enter(_) => self.enter_on(room, limbo, asked, answer),
-            Stage::Exit { .. } => self.exit_told(room, limbo, answer),
-            Stage::Trying(_) | Stage::Ended(_) => unreachable!(),
-        }
+        self.stage = Stage::Ended(outcome);
     }
 
     /// Makes the steps of its attempt, stage after stage.
@@ -432,7 +455,7 @@ impl Write {
         ensures turns { self.new.turns ≡ self.old.turns }
         ensures key { SameRow room.old room.new }
         ensures apart { IsApart self.new }
-        ensures going { ended_at self.new ≡ None }
+        ensures entered { HasEntered self.new.stage }
         ensures later { (S.view steps.old).steps ≤ (S.view steps.new).steps }
         ensures left { (qs : List Place) → (S.view steps.new).steps + steps_left self.new room.new qs ≤
             (S.view steps.old).steps + steps_left self.old room.old qs }
@@ -502,7 +525,7 @@ impl Write {
     /// An attempt ended so.
     #[inline(always)]
     fn conclude(&mut self, room: &Room, ending: Ending)
-        ensures going { ended_at self.new ≡ None }
+        ensures going { (ended_at self.new ≡ None) × HasEntered self.new.stage }
         ensures job { self.new.job ≡ self.old.job }
         ensures turns { self.new.turns ≡ self.old.turns }
         ensures restarts { (self.new.restarts ≡ self.old.restarts) ⊎ (ending ≡ anew) }

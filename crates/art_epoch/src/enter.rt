@@ -77,6 +77,7 @@ impl Enter {
     }
 
     /// The next step, or none where it has ended.
+    #[inline(always)]
     pub fn next(&self, limbo: &Limbo) -> Option<Action>
         ensures asks { result ≡ asks self.now (places_of limbo.now) }
         ensures allowed { (z : Sizes) (u v : View) (ps : List PlaceOf) → EnterFits z u ps self.now (places_of limbo.now) v →
@@ -92,6 +93,7 @@ impl Enter {
     }
 
     /// The step that it asked for was made, and answered so.
+    #[inline(always)]
     pub fn told(&mut self, limbo: &mut Limbo, answer: Answer)
         requires { (z : Sizes) × (u : View) × (v : View) × (w : View) × (ps : List PlaceOf) × (asked : ActionOf) ×
             EnterFits z u ps self.old (places_of limbo.old) v × (asks self.old (places_of limbo.old) ≡ Some asked) ×
@@ -112,6 +114,7 @@ impl Enter {
     }
 
     /// How it ended, if it has.
+    #[inline(always)]
     pub fn ended(&self) -> Option<Entered>
         ensures at { result ≡ ended_at self.now }
         ensures opened { (z : Sizes) (u v : View) (ps qs : List PlaceOf) → EnterFits z u ps self.now qs v →
@@ -125,6 +128,7 @@ impl Enter {
 }
 
 /// A step by which what waits goes back was made, and answered so.
+#[inline(always)]
 fn reclaimed(limbo: &mut Limbo, reclaiming: Reclaiming, blocker: Blocker, answer: Answer) -> Enter
     requires { (z : Sizes) × (v0 : View) × (v : View) × (w : View) × (ps : List PlaceOf) × (asked : ActionOf) ×
         reclaims.Fits z v0 ps reclaiming (places_of limbo.old) v × (reclaims.asks_at reclaiming.stage (places_of limbo.old) ≡ Some asked) ×
@@ -141,6 +145,7 @@ fn reclaimed(limbo: &mut Limbo, reclaiming: Reclaiming, blocker: Blocker, answer
 }
 
 /// The pass whose word the step found, and that word, if it was a pass's.
+#[inline(always)]
 fn watched(reclaiming: Reclaiming, answer: Answer) -> Option<Blocker>
     requires { reclaims.HearsWord reclaiming.stage → IsWord answer }
     ensures { (places : List PlaceOf) → result ≡ option_and_then (watched (word_in answer)) (reclaims.asks_at reclaiming.stage places) }
@@ -166,6 +171,7 @@ fn first_label(places: &[Place], least: Option<u64>) -> Option<u64>
 
 /// The pass that was found blocks the first place that stays under the lowest word, if that could have gone before. The place is looked
 /// for only where a pass was found.
+#[inline(always)]
 fn blocked_by(
     found: Option<Blocker>,
     least: Option<u64>,
@@ -189,6 +195,7 @@ fn blocked_by(
 }
 
 /// More goes back, or nothing more may: then the pass is pinned, or limbo is crowded.
+#[inline(always)]
 fn going_on(limbo: &Limbo, reclaiming: Reclaiming, blocker: Blocker) -> Enter
     ensures { result ≡ going_on (reclaims.asks_at reclaiming.stage (places_of limbo.now)) reclaiming blocker (places_of limbo.now) }
 {
@@ -205,6 +212,7 @@ fn going_on(limbo: &Limbo, reclaiming: Reclaiming, blocker: Blocker) -> Enter
 }
 
 /// A step of the pinning was made, and answered so.
+#[inline(always)]
 fn pinned(pinning: Pinning, answer: Answer) -> Enter
     requires { (z : Sizes) × (v0 : View) × (v : View) × (w : View) × (asked : ActionOf) × pins.Fits z v0 pinning v ×
         (pins.asks pinning ≡ Some asked) × Answers z None asked answer v w }
@@ -247,6 +255,7 @@ impl Pinning {
     }
 
     /// The next step, or none where it has ended.
+    #[inline(always)]
     pub fn next(&self) -> Option<Action>
         ensures asks { result ≡ pins.asks self.now }
         ensures allowed { (z : Sizes) (v0 v : View) → Fits z v0 self.now v → IfSome result (IsAllowed z None v) }
@@ -260,6 +269,7 @@ impl Pinning {
     }
 
     /// The step that it asked for was made, and answered so.
+    #[inline(always)]
     pub fn told(&mut self, answer: Answer)
         requires { (z : Sizes) × (v0 : View) × (v : View) × (w : View) × (action : ActionOf) × Fits z v0 self.old v ×
             (pins.asks self.old ≡ Some action) × Answers z None action answer v w }

@@ -46,6 +46,7 @@ impl Exit {
     }
 
     /// The next step, or none where it has ended.
+    #[inline(always)]
     pub fn next(&self, stock: &Stock) -> Option<Action>
         ensures asks { result ≡ asks self.now stock.now }
         ensures allowed { (z : Sizes) (k : List ℕ) (value : ℕ) (u v : View) (ps qs : List Place) (us : List LinkOf) →
@@ -60,6 +61,7 @@ impl Exit {
     }
 
     /// The step that it asked for was made, and answered so.
+    #[inline(always)]
     pub fn told(&mut self, limbo: &mut Limbo, stock: &mut Stock, unlinked: &[u64], answer: Answer)
         requires few { length unlinked.now ≤ 3 }
         requires fits { (z : Sizes) × (k : List ℕ) × (value : ℕ) × (u : View) × (v : View) × (w : View) × (ps : List Place) ×
@@ -80,6 +82,7 @@ impl Exit {
     }
 
     /// Whether it has ended.
+    #[inline(always)]
     pub fn ended(&self) -> bool
         ensures at { result ≡ is_ended self.now }
         ensures closed { (z : Sizes) (k : List ℕ) (value : ℕ) (u v : View) (ps qs : List Place) (us : List LinkOf) (stock : StockOf) →
@@ -93,6 +96,7 @@ impl Exit {
 }
 
 /// The first number in hand goes back; where there is none, 0 is stored.
+#[inline(always)]
 fn gives(stock: &Stock) -> Action
     ensures { result ≡ gives stock.now }
 {
@@ -103,6 +107,7 @@ fn gives(stock: &Stock) -> Action
 }
 
 /// The epoch was found, and labels what was unlinked.
+#[inline(always)]
 fn labelled(limbo: &mut Limbo, unlinked: &[u64], epoch: u64) -> Exit
     requires few { length unlinked.now ≤ 3 }
     requires room { length (places_of limbo.old) + length (links_of unlinked.now) ≤ 64 }
@@ -116,6 +121,7 @@ fn labelled(limbo: &mut Limbo, unlinked: &[u64], epoch: u64) -> Exit
 }
 
 /// The first number in hand went back, or the pass went idle.
+#[inline(always)]
 fn given(stock: &mut Stock) -> Exit
     ensures stock { stock.new ≡ stock_given stock.old }
     ensures next { result ≡ stage_given stock.old }

@@ -164,6 +164,7 @@ impl Reclaiming {
     }
 
     /// The next step, or none where it has ended.
+    #[inline(always)]
     pub fn next(&self, limbo: &Limbo) -> Option<Action>
         ensures asks { result ≡ asks_at self.now.stage (places_of limbo.now) }
         ensures allowed { (z : Sizes) (v0 v : View) (ps : List Place) → Fits z v0 ps self.now (places_of limbo.now) v →
@@ -183,6 +184,7 @@ impl Reclaiming {
     }
 
     /// The step that it asked for was made, and answered so.
+    #[inline(always)]
     pub fn told(&mut self, limbo: &mut Limbo, answer: Answer)
         requires { (z : Sizes) × (v0 : View) × (v : View) × (w : View) × (ps : List Place) × (action : ActionOf) ×
             Fits z v0 ps self.old (places_of limbo.old) v × (asks_at self.old.stage (places_of limbo.old) ≡ Some action) ×
@@ -203,6 +205,7 @@ impl Reclaiming {
 
     /// The least of the words that it found of other passes so far and that are not 0, if there is one: what is labelled with that
     /// or above it stays.
+    #[inline(always)]
     pub fn least(&self) -> Option<u64>
         ensures { result ≡ least_at self.now.stage }
     {
@@ -214,6 +217,7 @@ impl Reclaiming {
     }
 
     /// The pass whose word is to be found, if it is at one.
+    #[inline(always)]
     pub fn watches(&self) -> Option<u32>
         ensures { result ≡ watches_at self.now.stage }
     {
@@ -237,6 +241,7 @@ impl Reclaiming {
 }
 
 /// What waits once the step was made: where a number went back, the first that may go is gone.
+#[inline(always)]
 fn let_go(limbo: &mut Limbo, stage: ReclaimStage)
     requires { MayGo stage (places_of limbo.old) }
     ensures { places_of limbo.new ≡ places_after stage (places_of limbo.old) }
@@ -247,6 +252,7 @@ fn let_go(limbo: &mut Limbo, stage: ReclaimStage)
 }
 
 /// How far it has come once the step was answered so.
+#[inline(always)]
 fn after(own: u32, passes: u32, stage: ReclaimStage, answer: Answer) -> ReclaimStage
     requires stage { IsStage own passes stage }
     requires word { HearsWord stage → IsWord answer }

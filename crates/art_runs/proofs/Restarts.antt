@@ -80,7 +80,7 @@ module _ (z : Sizes) (u : View) (ps : List Place) (n : Write) (r : Room) (qs : L
       omega (arith, failed, more, first, last)
 
   write_failed : (s : Stage) → writes.StageFits z u ps s n r qs v → v.failures ≡ u.failures → n.restarts ≡ 0
-  write_failed (stage.Enter e) fits none = fits.fresh
+  write_failed (stage.Enter e) fits none = fits.untried.fresh
   write_failed (stage.Trying i) fits none =
       let t = fits.0 in
       let failed = t.begun.failed in

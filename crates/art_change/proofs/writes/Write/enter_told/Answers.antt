@@ -1,10 +1,10 @@
-use Rattle.std.proofs.Common.{◌∙◌, Some, sym, subst, Option, arith}
+use Rattle.std.proofs.Common.{◌∙◌, sym, subst, Option, Some, arith}
 use Rattle.std.specs.Prelude.{IfSome}
-use Rattle.art_change.proofs.Frames.{opened_begun, opened_has}
+use Rattle.art_change.proofs.FrameSteps.{enter_frame, frame_one}
+use Rattle.art_change.proofs.Frames.{later_untried}
 use Rattle.art_change.proofs.Staged.{asked_at, fits_at, made_at, steps_at}
 use Rattle.art_change.proofs.writes.Write.enter_told.Goals as goal
 use Rattle.art_change.specs.declared.writes.Stage.TheVariants.{Enter}
-use Rattle.art_change.proofs.FrameSteps.{frame_one, enter_frame}
 use Rattle.art_epoch.specs.Limbo.{places_of}
 use Rattle.art_epoch.specs.Enter.{HasEnded}
 use Rattle.art_epoch.specs.declared.enter.Entered.{Entered}
@@ -31,54 +31,30 @@ returns-in-None-clause-fits c z u v w ps asked fits is row =
     let asks = asked_at m r (Enter e) at qs (Some asked) is in
     let made = made_at m r (Enter e) at z asked c.args.answer v w row in
     let one = frame_one z asked c.args.answer v w (enter_frame e qs asked asks) made in
-    let before = o.later in
     record {
       room = fits.room;
       stage = record {
         enter = c.told.ensures.fits z u v w ps asked o.enter asks made;
         going = sym c.ended.ensures.at ∙ c.in-None.is;
-        free = o.free;
-        has = o.has;
-        later = omega (arith, one, before);
-        full = o.full;
-        fresh = o.fresh;
+        untried = later_untried z u m (Enter c.told.new.self) r v w (omega (arith, one)) o.untried;
       };
     }
 
-pub returns-in-Some-Pinned-clause-fits : goal.returns-in-Some-Pinned-clause-fits
-returns-in-Some-Pinned-clause-fits c z u v w ps asked fits is row =
+pub returns-in-Some-clause-fits : goal.returns-in-Some-clause-fits
+returns-in-Some-clause-fits c z u v w ps asked fits is row =
     let m = c.args.self.now in
     let r = c.args.room.now in
     let e = c.in-Enter.enter in
     let at = c.in-Enter.is in
-    let ps_now = places_of c.args.limbo.now in
+    let before = places_of c.args.limbo.now in
     let qs = places_of c.told.new.limbo in
-    let o = fits_at m r (Enter e) at z u ps ps_now v fits in
-    let asks = asked_at m r (Enter e) at ps_now (Some asked) is in
+    let o = fits_at m r (Enter e) at z u ps before v fits in
+    let asks = asked_at m r (Enter e) at before (Some asked) is in
     let made = made_at m r (Enter e) at z asked c.args.answer v w row in
+    let one = frame_one z asked c.args.answer v w (enter_frame e before asked asks) made in
     let next = c.told.ensures.fits z u v w ps asked o.enter asks made in
-    let opened = subst (λ (a : Option Entered). IfSome a (HasEnded z u w ps qs)) c.in-Some-Pinned.is (c.ended.ensures.opened z u w ps qs next) in
-    let frame = subst (HasEnded z u w ps qs) c.in-Some-Pinned.field-0-is opened in
-    let one = frame_one z asked c.args.answer v w (enter_frame e ps_now asked asks) made in
-    let before = o.later in
-    c.go_on.ensures.fits z u w w ps qs fits.room (record { frame = frame; later = omega (arith, one, before) })
-    (opened_begun z u w ps qs frame o.free m.restarts o.fresh) (opened_has z u w ps qs frame o.free r o.has)
-    (let full = o.full in omega (arith, full))
-
-pub returns-in-Some-Crowded-clause-fits : goal.returns-in-Some-Crowded-clause-fits
-returns-in-Some-Crowded-clause-fits c z u v w ps asked fits is row =
-    let m = c.args.self.now in
-    let r = c.args.room.now in
-    let e = c.in-Enter.enter in
-    let at = c.in-Enter.is in
-    let ps_now = places_of c.args.limbo.now in
-    let qs = places_of c.told.new.limbo in
-    let o = fits_at m r (Enter e) at z u ps ps_now v fits in
-    let asks = asked_at m r (Enter e) at ps_now (Some asked) is in
-    let made = made_at m r (Enter e) at z asked c.args.answer v w row in
-    let next = c.told.ensures.fits z u v w ps asked o.enter asks made in
-    let ended = subst (λ (a : Option Entered). IfSome a (HasEnded z u w ps qs)) c.in-Some-Crowded.is (c.ended.ensures.opened z u w ps qs next) in
-    record { room = fits.room; stage = (subst (HasEnded z u w ps qs) c.in-Some-Crowded.field-0-is ended, o.free, o.has, o.fresh) }
+    let ended = subst (λ (a : Option Entered). IfSome a (HasEnded z u w ps qs)) c.in-Some.is (c.ended.ensures.opened z u w ps qs next) in
+    c.entered.ensures.fits z u w ps qs fits.room (later_untried z u m (Enter c.told.new.self) r v w (omega (arith, one)) o.untried) ended
 
 pub returns-in-None-clause-left : goal.returns-in-None-clause-left
 returns-in-None-clause-left c =
@@ -86,15 +62,9 @@ returns-in-None-clause-left c =
     let same = steps_at c.args.self.now c.args.room.now (Enter c.in-Enter.enter) c.in-Enter.is (places_of c.args.limbo.now) in
     omega (arith, fewer, same)
 
-pub returns-in-Some-Pinned-clause-left : goal.returns-in-Some-Pinned-clause-left
-returns-in-Some-Pinned-clause-left c =
+pub returns-in-Some-clause-left : goal.returns-in-Some-clause-left
+returns-in-Some-clause-left c =
     let fewer = c.told.ensures.left in
-    let few = c.go_on.ensures.left (places_of c.told.new.limbo) in
+    let few = c.entered.ensures.left (places_of c.told.new.limbo) in
     let same = steps_at c.args.self.now c.args.room.now (Enter c.in-Enter.enter) c.in-Enter.is (places_of c.args.limbo.now) in
     omega (arith, fewer, few, same)
-
-pub returns-in-Some-Crowded-clause-left : goal.returns-in-Some-Crowded-clause-left
-returns-in-Some-Crowded-clause-left c =
-    let fewer = c.told.ensures.left in
-    let same = steps_at c.args.self.now c.args.room.now (Enter c.in-Enter.enter) c.in-Enter.is (places_of c.args.limbo.now) in
-    omega (arith, fewer, same)
