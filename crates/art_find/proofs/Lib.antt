@@ -11,6 +11,7 @@ pub mod Keeping
 mod LeafKeys
 pub mod Looks
 mod NodeWords
+mod Passing
 mod Placing
 pub mod Runs
 pub mod Stages

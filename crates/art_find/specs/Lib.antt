@@ -5,6 +5,7 @@ pub mod ReadSets
 pub mod Driven
 pub mod Findings
 pub mod Kept
+pub mod Nodes
 pub mod Rereadings
 pub mod Runs
 pub mod Straight

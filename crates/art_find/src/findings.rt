@@ -77,9 +77,9 @@ pub struct Position {
 /// beside it.
 #[derive(Clone, Copy)]
 pub struct Finding {
-    descent: Descent,
+    pub(crate) descent: Descent,
     /// Where it stands on a node, the cell that has the node as its child.
-    above: Option<Above>,
+    pub(crate) above: Option<Above>,
 }
 
 impl Finding {
@@ -187,7 +187,13 @@ impl Finding {
         ensures descends { Descends (S.sizes steps.old) key.now result self.old read_set.old (S.view steps.old)
             self.new read_set.new (S.view steps.new) }
     {
-        while *left > 1 {
+        loop {
+            if !self.pass_nodes(steps, read_set, key, left) {
+                return false;
+            }
+            if *left <= 1 {
+                return true;
+            }
             let Some(on) = self.look_on(steps, read_set, key) else {
                 return true;
             };
@@ -196,7 +202,6 @@ impl Finding {
                 return false;
             }
         }
-        true
     }
 
     /// Makes the next step, unless the place is known or it has ended, and hears it. Whether it goes on: else it restarts.
@@ -355,7 +360,7 @@ impl Finding {
 
     /// The version word that it asked for, where its descent stood at this stage, was found so. Whether it goes on.
     #[inline(always)]
-    fn hear_begun(
+    pub(crate) fn hear_begun(
         &mut self,
         read_set: &mut ReadSet,
         stage: Stage,
@@ -382,7 +387,7 @@ impl Finding {
 
     /// The word of a cell that it asked for, where its descent stood at this stage, is this: it is kept.
     #[inline(always)]
-    fn hear_word(
+    pub(crate) fn hear_word(
         &mut self,
         read_set: &mut ReadSet,
         key: &[u8],
@@ -407,7 +412,7 @@ impl Finding {
 
     /// The cell that it asked for, where its descent stood at this stage, was checked. Whether it goes on.
     #[inline(always)]
-    fn hear_checked(
+    pub(crate) fn hear_checked(
         &mut self,
         read_set: &mut ReadSet,
         stage: Stage,

@@ -68,7 +68,8 @@
 //!
 //! An insert or a removal that goes on from there needs more than a get: the cell above stays stamped, and the words that were
 //! read are kept. `Finding` is a descent that keeps them in a `ReadSet` (`src/findings.rt` teaches it), and a `Rereading` reads the
-//! words of a cell that the descent had no need of.
+//! words of a cell that the descent had no need of. A finding goes straight down too (`src/nodes.rt`): the steps of `descend` are
+//! those of its machine, in the same order, and where something stops it the machine goes on.
 //!
 //! # How many steps
 //!
@@ -79,6 +80,7 @@
 mod descents;
 mod driver;
 mod findings;
+mod nodes;
 mod read_sets;
 mod reads;
 mod straight;

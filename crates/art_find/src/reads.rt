@@ -386,7 +386,7 @@ impl Descent {
 
 /// The stage after a search in a node.
 #[inline(always)]
-fn staged(sought: Sought, seen: NodeSeen) -> Stage
+pub(crate) fn staged(sought: Sought, seen: NodeSeen) -> Stage
     ensures { result ≡ staged sought seen }
 {
     match sought {

@@ -3,8 +3,8 @@ use Rattle.std.proofs.Common.{◌≡◌, ◌+◌, ◌<◌, ◌≤◌}
 use Rattle.art_find.specs.Findings.{WentOn}
 use Rattle.art_find.proofs.findings.Finding.descend.Given as goal
 
-abbrev pub invariant-loop-left : goal.invariant-loop-left
-invariant-loop-left g l = record {
+abbrev pub invariant-loop-self : goal.invariant-loop-self
+invariant-loop-self g l = record {
   only : g.S.Steps.only l.fn.steps l.steps;
   sizes : g.S.Steps.sizes l.steps ≡ g.S.Steps.sizes l.fn.steps;
   turn : 0 < l.left;
@@ -13,5 +13,5 @@ invariant-loop-left g l = record {
   on : WentOn (g.S.Steps.sizes l.fn.steps) l.fn.key l.fn.self l.fn.read_set (g.S.Steps.view l.fn.steps) l.self l.read_set (g.S.Steps.view l.steps);
 }
 
-abbrev pub decreases-loop-left : goal.decreases-loop-left
-decreases-loop-left g l = l.left
+abbrev pub decreases-loop-self : goal.decreases-loop-self
+decreases-loop-self g l = l.left

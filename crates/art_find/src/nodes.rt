@@ -1,0 +1,675 @@
+//! The straight way of a finding, from node to node.
+//!
+//! It makes the steps of a finding in their order, and keeps in hand only what the next one needs, as the straight way of a get
+//! does: the stage at which the finding would stand is named in the contracts alone. Each word is kept as ever, and so is the cell
+//! above. Whatever stops it (a version word that is locked or changed, a prefix, an end of the key, a child that is none, few
+//! turns) is left to the finding: its stage is put back, and it hears the answer, or goes on from there. So are the words of a leaf's
+//! key but the first.
+//!
+//! A step answers what the next one needs; or, where it stops, whether the finding goes on (`Err`): it restarts where a version word
+//! was locked or changed. Each contract says that from wherever steps had come to the one finding, they reach the other (`GoesOn`), so
+//! that the steps of a node are put together by their contracts alone.
+ghost use Rattle.std.specs.Prelude.{◌≡◌, ◌+◌, ◌<◌, ◌≤◌, Ok, IfOk, length};
+ghost use Rattle.art_find.specs.Compares.{at_first};
+ghost use Rattle.art_find.specs.Nodes.{Arrives, Came, GoesOn, IsFound, Moment, at_below, at_child, at_search, finding_at, moment};
+ghost use Rattle.art_find.specs.declared.descents.Stage.TheVariants as stages;
+ghost use Rattle.art_find.specs.declared.findings.Finding.{Finding as FindingOf};
+
+use crate::descents::{Beside, below as below_stage};
+use crate::driver::{read_leaf_word, read_word};
+use crate::reads::staged;
+use crate::straight::{Below, Child, NodeSearch};
+use crate::{Above, Descent, Finding, LeafSeen, NodeSeen, ReadSet, Stage};
+use art_cell::{Cell, Link, Node};
+use art_node::{Sought, first_word, next_word, read_header};
+use art_path::Compared;
+use art_step::{Stamp, Steps};
+
+/// So many turns must be left where a node is entered: it takes seven steps at most, and the last turn is never used.
+const ENOUGH: u32 = 8;
+
+impl Finding {
+    /// Goes straight down, from node to node, where it is at its beginning or stands below a checked cell, as far as nothing stops
+    /// it. Whether it goes on: else the last step failed, and it restarts.
+    #[inline(always)]
+    pub(crate) fn pass_nodes<S: Steps>(
+        &mut self,
+        steps: &mut S,
+        read_set: &mut ReadSet,
+        key: &[u8],
+        left: &mut u32,
+    ) -> bool
+        requires few { length key.now ≤ 64 }
+        requires left { 0 < left.old }
+        requires found { IsFound key.now self.old
+            (moment (S.sizes steps.old) (S.view steps.old) read_set.old left.old) }
+        ensures only { S.only steps.old steps.new }
+        ensures left { 0 < left.new }
+        ensures less { left.new ≤ left.old }
+        ensures goes { (m : FindingOf) (a : Moment) →
+            Came key.now m a self.old (moment (S.sizes steps.old) (S.view steps.old) read_set.old left.old) →
+            Arrives result key.now m a self.new (moment (S.sizes steps.new) (S.view steps.new) read_set.new left.new) }
+    {
+        if *left <= ENOUGH {
+            return true;
+        }
+        let mut below = match self.first(steps, read_set, key, left) {
+            Ok(below) => below,
+            Err(on) => return on,
+        };
+        while *left >= ENOUGH {
+            match self.pass_link(steps, read_set, key, left, below) {
+                Ok(next) => below = next,
+                Err(on) => return on,
+            }
+        }
+        self.descent = Descent {
+            depth: below.depth,
+            stage: below_stage(below.above, below.link),
+        };
+        true
+    }
+
+    /// What is below the cell where it stands, or below the anchor.
+    #[inline(always)]
+    fn first<S: Steps>(
+        &mut self,
+        steps: &mut S,
+        read_set: &mut ReadSet,
+        key: &[u8],
+        left: &mut u32,
+    ) -> Result<Below, bool>
+        requires few { length key.now ≤ 64 }
+        requires left { 3 < left.old }
+        requires found { IsFound key.now self.old
+            (moment (S.sizes steps.old) (S.view steps.old) read_set.old left.old) }
+        ensures only { S.only steps.old steps.new }
+        ensures left { 0 < left.new }
+        ensures less { left.new ≤ left.old }
+        ensures goes { GoesOn (at_below self.new.above) result key.now self.old
+            (moment (S.sizes steps.old) (S.view steps.old) read_set.old left.old)
+            self.new (moment (S.sizes steps.new) (S.view steps.new) read_set.new left.new) }
+    {
+        match *self.descent.stage() {
+            Stage::Start => self.root(steps, read_set, key, left),
+            Stage::Below { above, node } => Ok(Below {
+                depth: self.descent.depth,
+                above,
+                link: Link::Node(node),
+            }),
+            _ => Err(true),
+        }
+    }
+
+    /// What is below the anchor.
+    #[inline(always)]
+    fn root<S: Steps>(
+        &mut self,
+        steps: &mut S,
+        read_set: &mut ReadSet,
+        key: &[u8],
+        left: &mut u32,
+    ) -> Result<Below, bool>
+        requires few { length key.now ≤ 64 }
+        requires left { 3 < left.old }
+        requires found { IsFound key.now (finding_at self.old.above self.old.descent.depth stages.Start)
+            (moment (S.sizes steps.old) (S.view steps.old) read_set.old left.old) }
+        ensures only { S.only steps.old steps.new }
+        ensures left { 0 < left.new }
+        ensures less { left.new < left.old }
+        ensures goes { GoesOn (at_below self.new.above) result key.now
+            (finding_at self.old.above self.old.descent.depth stages.Start)
+            (moment (S.sizes steps.old) (S.view steps.old) read_set.old left.old)
+            self.new (moment (S.sizes steps.new) (S.view steps.new) read_set.new left.new) }
+    {
+        let stamp = self.stamp_anchor(steps, read_set, key, left)?;
+        let child = self.root_child(steps, read_set, key, left, stamp)?;
+        self.pass_child(steps, read_set, key, left, child)
+    }
+
+    /// Stamps the anchor: the finding stands there from now on.
+    #[inline(always)]
+    fn stamp_anchor<S: Steps>(
+        &mut self,
+        steps: &mut S,
+        read_set: &mut ReadSet,
+        key: &[u8],
+        left: &mut u32,
+    ) -> Result<Stamp, bool>
+        requires few { length key.now ≤ 64 }
+        requires left { 0 < left.old }
+        requires found { IsFound key.now (finding_at self.old.above self.old.descent.depth stages.Start)
+            (moment (S.sizes steps.old) (S.view steps.old) read_set.old left.old) }
+        ensures only { S.only steps.old steps.new }
+        ensures left { left.new + 1 ≡ left.old }
+        ensures goes { GoesOn (λ x. finding_at self.new.above self.new.descent.depth (stages.Anchor x)) result key.now
+            (finding_at self.old.above self.old.descent.depth stages.Start)
+            (moment (S.sizes steps.old) (S.view steps.old) read_set.old left.old)
+            self.new (moment (S.sizes steps.new) (S.view steps.new) read_set.new left.new) }
+    {
+        let _ = key;
+        *left -= 1;
+        match steps.begin(Cell::Anchor) {
+            Ok(stamp) => {
+                self.above = None;
+                read_set.clear();
+                Ok(stamp)
+            }
+            begun => {
+                self.descent = Descent {
+                    depth: self.descent.depth,
+                    stage: Stage::Start,
+                };
+                Err(self.hear_begun(read_set, Stage::Start, Cell::Anchor, begun))
+            }
+        }
+    }
+
+    /// Reads what the anchor names.
+    #[inline(always)]
+    fn root_child<S: Steps>(
+        &mut self,
+        steps: &mut S,
+        read_set: &mut ReadSet,
+        key: &[u8],
+        left: &mut u32,
+        stamp: Stamp,
+    ) -> Result<Child, bool>
+        requires few { length key.now ≤ 64 }
+        requires left { 0 < left.old }
+        requires found { IsFound key.now (finding_at self.old.above self.old.descent.depth (stages.Anchor stamp))
+            (moment (S.sizes steps.old) (S.view steps.old) read_set.old left.old) }
+        ensures only { S.only steps.old steps.new }
+        ensures left { left.new + 1 ≡ left.old }
+        ensures goes { GoesOn (at_child self.new.above) result key.now
+            (finding_at self.old.above self.old.descent.depth (stages.Anchor stamp))
+            (moment (S.sizes steps.old) (S.view steps.old) read_set.old left.old)
+            self.new (moment (S.sizes steps.new) (S.view steps.new) read_set.new left.new) }
+    {
+        *left -= 1;
+        let word = read_word(steps, stamp, 1);
+        let Some(link) = Link::named_by(word) else {
+            let stage = Stage::Anchor(stamp);
+            self.descent = Descent {
+                depth: self.descent.depth,
+                stage,
+            };
+            self.hear_word(read_set, key, stage, stamp, 1, word);
+            return Err(true);
+        };
+        read_set.note(1, word);
+        Ok(Child {
+            depth: 0,
+            stamp,
+            link,
+        })
+    }
+
+    /// What is below the node. A leaf is read as far as the first word of its key.
+    #[inline(always)]
+    fn pass_link<S: Steps>(
+        &mut self,
+        steps: &mut S,
+        read_set: &mut ReadSet,
+        key: &[u8],
+        left: &mut u32,
+        below: Below,
+    ) -> Result<Below, bool>
+        requires few { length key.now ≤ 64 }
+        requires left { 8 ≤ left.old }
+        requires found { IsFound key.now (at_below self.old.above below)
+            (moment (S.sizes steps.old) (S.view steps.old) read_set.old left.old) }
+        ensures only { S.only steps.old steps.new }
+        ensures left { 0 < left.new }
+        ensures less { left.new ≤ left.old }
+        ensures further { IfOk result (λ b. left.new < left.old) }
+        ensures goes { GoesOn (at_below self.new.above) result key.now
+            (at_below self.old.above below)
+            (moment (S.sizes steps.old) (S.view steps.old) read_set.old left.old)
+            self.new (moment (S.sizes steps.new) (S.view steps.new) read_set.new left.new) }
+    {
+        match below.link {
+            Link::Node(node) => self.enter_node(steps, read_set, key, left, below, node),
+            Link::Leaf(leaf) => self.read_leaf(steps, read_set, key, left, below, leaf),
+        }
+    }
+
+    /// What is below the node.
+    #[inline(always)]
+    fn enter_node<S: Steps>(
+        &mut self,
+        steps: &mut S,
+        read_set: &mut ReadSet,
+        key: &[u8],
+        left: &mut u32,
+        below: Below,
+        node: Node,
+    ) -> Result<Below, bool>
+        requires few { length key.now ≤ 64 }
+        requires left { 8 ≤ left.old }
+        requires found { IsFound key.now (finding_at self.old.above below.depth (stages.Below below.above node))
+            (moment (S.sizes steps.old) (S.view steps.old) read_set.old left.old) }
+        ensures only { S.only steps.old steps.new }
+        ensures left { 0 < left.new }
+        ensures less { left.new < left.old }
+        ensures goes { GoesOn (at_below self.new.above) result key.now
+            (finding_at self.old.above below.depth (stages.Below below.above node))
+            (moment (S.sizes steps.old) (S.view steps.old) read_set.old left.old)
+            self.new (moment (S.sizes steps.new) (S.view steps.new) read_set.new left.new) }
+    {
+        let stamp = self.stamp_node(steps, read_set, key, left, below, node)?;
+        self.check_above(steps, read_set, key, left, below, node, stamp)?;
+        let found = self.search(steps, read_set, key, left, below.depth, node, stamp)?;
+        let place = self.search_on(steps, read_set, key, left, found)?;
+        let child = self.child_at(steps, read_set, key, left, found.depth, found.seen, place)?;
+        self.pass_child(steps, read_set, key, left, child)
+    }
+
+    /// Stamps the node.
+    #[inline(always)]
+    fn stamp_node<S: Steps>(
+        &mut self,
+        steps: &mut S,
+        read_set: &mut ReadSet,
+        key: &[u8],
+        left: &mut u32,
+        below: Below,
+        node: Node,
+    ) -> Result<Stamp, bool>
+        requires few { length key.now ≤ 64 }
+        requires left { 0 < left.old }
+        requires found { IsFound key.now (finding_at self.old.above below.depth (stages.Below below.above node))
+            (moment (S.sizes steps.old) (S.view steps.old) read_set.old left.old) }
+        ensures only { S.only steps.old steps.new }
+        ensures left { left.new + 1 ≡ left.old }
+        ensures goes { GoesOn (λ y. finding_at self.new.above below.depth (stages.Both below.above y node)) result key.now
+            (finding_at self.old.above below.depth (stages.Below below.above node))
+            (moment (S.sizes steps.old) (S.view steps.old) read_set.old left.old)
+            self.new (moment (S.sizes steps.new) (S.view steps.new) read_set.new left.new) }
+    {
+        let _ = key;
+        *left -= 1;
+        match steps.begin(Cell::Node(node)) {
+            Ok(stamp) => Ok(stamp),
+            begun => {
+                let stage = Stage::Below {
+                    above: below.above,
+                    node,
+                };
+                self.descent = Descent {
+                    depth: below.depth,
+                    stage,
+                };
+                Err(self.hear_begun(read_set, stage, Cell::Node(node), begun))
+            }
+        }
+    }
+
+    /// Checks the cell that names the stamped node: the finding stands on the node from now on.
+    #[inline(always)]
+    fn check_above<S: Steps>(
+        &mut self,
+        steps: &mut S,
+        read_set: &mut ReadSet,
+        key: &[u8],
+        left: &mut u32,
+        below: Below,
+        node: Node,
+        stamp: Stamp,
+    ) -> Result<(), bool>
+        requires few { length key.now ≤ 64 }
+        requires left { 0 < left.old }
+        requires found { IsFound key.now (finding_at self.old.above below.depth (stages.Both below.above stamp node))
+            (moment (S.sizes steps.old) (S.view steps.old) read_set.old left.old) }
+        ensures only { S.only steps.old steps.new }
+        ensures left { left.new + 1 ≡ left.old }
+        ensures goes { GoesOn (λ x. finding_at self.new.above below.depth (stages.Header stamp node)) result key.now
+            (finding_at self.old.above below.depth (stages.Both below.above stamp node))
+            (moment (S.sizes steps.old) (S.view steps.old) read_set.old left.old)
+            self.new (moment (S.sizes steps.new) (S.view steps.new) read_set.new left.new) }
+    {
+        let _ = key;
+        *left -= 1;
+        match steps.check(below.above, None) {
+            Ok(()) => {
+                self.above = Some(Above {
+                    stamp: below.above,
+                    depth: below.depth,
+                });
+                read_set.go_down();
+                Ok(())
+            }
+            checked => {
+                let stage = Stage::Both {
+                    above: below.above,
+                    stamp,
+                    node,
+                };
+                self.descent = Descent {
+                    depth: below.depth,
+                    stage,
+                };
+                Err(self.hear_checked(read_set, stage, below.above, checked))
+            }
+        }
+    }
+
+    /// Reads the header of a node: where to look for the child of the key's next byte. A prefix is left to the finding.
+    #[inline(always)]
+    fn search<S: Steps>(
+        &mut self,
+        steps: &mut S,
+        read_set: &mut ReadSet,
+        key: &[u8],
+        left: &mut u32,
+        depth: usize,
+        node: Node,
+        stamp: Stamp,
+    ) -> Result<NodeSearch, bool>
+        requires few { length key.now ≤ 64 }
+        requires left { 0 < left.old }
+        requires found { IsFound key.now (finding_at self.old.above depth (stages.Header stamp node))
+            (moment (S.sizes steps.old) (S.view steps.old) read_set.old left.old) }
+        ensures only { S.only steps.old steps.new }
+        ensures left { left.new + 1 ≡ left.old }
+        ensures deep { IfOk result (λ r. r.depth < length key.now) }
+        ensures goes { GoesOn (at_search self.new.above) result key.now
+            (finding_at self.old.above depth (stages.Header stamp node))
+            (moment (S.sizes steps.old) (S.view steps.old) read_set.old left.old)
+            self.new (moment (S.sizes steps.new) (S.view steps.new) read_set.new left.new) }
+    {
+        *left -= 1;
+        let header = read_word(steps, stamp, 1);
+        if read_header(header).prefix_length > 0 || depth >= key.len() {
+            let stage = Stage::Header { stamp, node };
+            self.descent = Descent { depth, stage };
+            self.hear_word(read_set, key, stage, stamp, 1, header);
+            return Err(true);
+        }
+        read_set.note(1, header);
+        let seen = NodeSeen {
+            stamp,
+            node,
+            header,
+        };
+        Ok(NodeSearch {
+            depth,
+            seen,
+            sought: first_word(node.layout, key[depth], header),
+        })
+    }
+
+    /// Reads one word after another, until it is known where the child word stands.
+    #[inline(always)]
+    fn search_on<S: Steps>(
+        &mut self,
+        steps: &mut S,
+        read_set: &mut ReadSet,
+        key: &[u8],
+        left: &mut u32,
+        found: NodeSearch,
+    ) -> Result<usize, bool>
+        requires few { length key.now ≤ 64 }
+        requires left { 2 < left.old }
+        requires deep { found.depth < length key.now }
+        requires found { IsFound key.now (at_search self.old.above found)
+            (moment (S.sizes steps.old) (S.view steps.old) read_set.old left.old) }
+        ensures only { S.only steps.old steps.new }
+        ensures left { 2 < left.new }
+        ensures less { left.new ≤ left.old }
+        ensures goes { GoesOn (λ place. finding_at self.new.above found.depth (stages.Slot found.seen place)) result key.now
+            (at_search self.old.above found)
+            (moment (S.sizes steps.old) (S.view steps.old) read_set.old left.old)
+            self.new (moment (S.sizes steps.new) (S.view steps.new) read_set.new left.new) }
+    {
+        let NodeSearch { depth, seen, .. } = found;
+        let mut sought = found.sought;
+        loop {
+            let number = match sought {
+                Sought::Keys(number) => number,
+                Sought::Child(place) => return Ok(place),
+                Sought::Nothing => {
+                    self.descent = Descent {
+                        depth,
+                        stage: staged(sought, seen),
+                    };
+                    return Err(true);
+                }
+            };
+            if *left < 4 {
+                self.descent = Descent {
+                    depth,
+                    stage: staged(sought, seen),
+                };
+                return Err(true);
+            }
+            *left -= 1;
+            let place = 10 + usize::from(number);
+            let word = read_word(steps, seen.stamp, place);
+            read_set.note(place, word);
+            sought = next_word(seen.node.layout, key[depth], seen.header, number, word);
+        }
+    }
+
+    /// Reads what the node names at the place.
+    #[inline(always)]
+    fn child_at<S: Steps>(
+        &mut self,
+        steps: &mut S,
+        read_set: &mut ReadSet,
+        key: &[u8],
+        left: &mut u32,
+        depth: usize,
+        seen: NodeSeen,
+        place: usize,
+    ) -> Result<Child, bool>
+        requires few { length key.now ≤ 64 }
+        requires left { 0 < left.old }
+        requires found { IsFound key.now (finding_at self.old.above depth (stages.Slot seen place))
+            (moment (S.sizes steps.old) (S.view steps.old) read_set.old left.old) }
+        ensures only { S.only steps.old steps.new }
+        ensures left { left.new + 1 ≡ left.old }
+        ensures goes { GoesOn (at_child self.new.above) result key.now
+            (finding_at self.old.above depth (stages.Slot seen place))
+            (moment (S.sizes steps.old) (S.view steps.old) read_set.old left.old)
+            self.new (moment (S.sizes steps.new) (S.view steps.new) read_set.new left.new) }
+    {
+        *left -= 1;
+        let word = read_word(steps, seen.stamp, place);
+        let Some(link) = Link::named_by(word) else {
+            let stage = Stage::Slot { seen, place };
+            self.descent = Descent { depth, stage };
+            self.hear_word(read_set, key, stage, seen.stamp, place, word);
+            return Err(true);
+        };
+        read_set.note(place, word);
+        Ok(Child {
+            depth: depth + 1,
+            stamp: seen.stamp,
+            link,
+        })
+    }
+
+    /// Checks the cell that names the child.
+    #[inline(always)]
+    fn pass_child<S: Steps>(
+        &mut self,
+        steps: &mut S,
+        read_set: &mut ReadSet,
+        key: &[u8],
+        left: &mut u32,
+        child: Child,
+    ) -> Result<Below, bool>
+        requires few { length key.now ≤ 64 }
+        requires left { 0 < left.old }
+        requires found { IsFound key.now (at_child self.old.above child)
+            (moment (S.sizes steps.old) (S.view steps.old) read_set.old left.old) }
+        ensures only { S.only steps.old steps.new }
+        ensures left { left.new + 1 ≡ left.old }
+        ensures goes { GoesOn (at_below self.new.above) result key.now (at_child self.old.above child)
+            (moment (S.sizes steps.old) (S.view steps.old) read_set.old left.old)
+            self.new (moment (S.sizes steps.new) (S.view steps.new) read_set.new left.new) }
+    {
+        let _ = key;
+        *left -= 1;
+        match steps.check(child.stamp, None) {
+            Ok(()) => Ok(Below {
+                depth: child.depth,
+                above: child.stamp,
+                link: child.link,
+            }),
+            checked => {
+                let stage = Stage::Child {
+                    stamp: child.stamp,
+                    link: child.link,
+                };
+                self.descent = Descent {
+                    depth: child.depth,
+                    stage,
+                };
+                Err(self.hear_checked(read_set, stage, child.stamp, checked))
+            }
+        }
+    }
+
+    /// Reads the value of the leaf, its length and the first word of its key. What comes then is left to the finding.
+    #[inline(always)]
+    fn read_leaf<S: Steps>(
+        &mut self,
+        steps: &mut S,
+        read_set: &ReadSet,
+        key: &[u8],
+        left: &mut u32,
+        below: Below,
+        leaf: u32,
+    ) -> Result<Below, bool>
+        requires few { length key.now ≤ 64 }
+        requires left { 3 < left.old }
+        requires found { IsFound key.now (finding_at self.old.above below.depth (stages.Value below.above leaf))
+            (moment (S.sizes steps.old) (S.view steps.old) read_set.now left.old) }
+        ensures only { S.only steps.old steps.new }
+        ensures left { 0 < left.new }
+        ensures less { left.new < left.old }
+        ensures goes { GoesOn (at_below self.new.above) result key.now
+            (finding_at self.old.above below.depth (stages.Value below.above leaf))
+            (moment (S.sizes steps.old) (S.view steps.old) read_set.now left.old)
+            self.new (moment (S.sizes steps.new) (S.view steps.new) read_set.now left.new) }
+    {
+        let value = self.leaf_value(steps, read_set, key, left, below, leaf);
+        let seen = self.leaf_count(steps, read_set, key, left, below, leaf, value)?;
+        self.compare_first(steps, read_set, key, left, below.depth, seen);
+        Err(true)
+    }
+
+    /// Reads the value of the leaf.
+    #[inline(always)]
+    fn leaf_value<S: Steps>(
+        &self,
+        steps: &mut S,
+        read_set: &ReadSet,
+        key: &[u8],
+        left: &mut u32,
+        below: Below,
+        leaf: u32,
+    ) -> u64
+        requires left { 0 < left.old }
+        requires found { IsFound key.now (finding_at self.now.above below.depth (stages.Value below.above leaf))
+            (moment (S.sizes steps.old) (S.view steps.old) read_set.now left.old) }
+        ensures only { S.only steps.old steps.new }
+        ensures left { left.new + 1 ≡ left.old }
+        ensures goes { (m : FindingOf) (a : Moment) →
+            Came key.now m a (finding_at self.now.above below.depth (stages.Value below.above leaf))
+            (moment (S.sizes steps.old) (S.view steps.old) read_set.now left.old) →
+            Came key.now m a (finding_at self.now.above below.depth (stages.Length below.above leaf result))
+            (moment (S.sizes steps.new) (S.view steps.new) read_set.now left.new) }
+    {
+        let _ = read_set;
+        let _ = key;
+        *left -= 1;
+        read_leaf_word(steps, below.above, leaf, 0)
+    }
+
+    /// Reads how many bytes its key has.
+    #[inline(always)]
+    fn leaf_count<S: Steps>(
+        &mut self,
+        steps: &mut S,
+        read_set: &ReadSet,
+        key: &[u8],
+        left: &mut u32,
+        below: Below,
+        leaf: u32,
+        value: u64,
+    ) -> Result<LeafSeen, bool>
+        requires few { length key.now ≤ 64 }
+        requires left { 0 < left.old }
+        requires found { IsFound key.now (finding_at self.old.above below.depth (stages.Length below.above leaf value))
+            (moment (S.sizes steps.old) (S.view steps.old) read_set.now left.old) }
+        ensures only { S.only steps.old steps.new }
+        ensures left { left.new + 1 ≡ left.old }
+        ensures goes { GoesOn (λ x. finding_at self.new.above below.depth (stages.Bytes x 0 at_first)) result key.now
+            (finding_at self.old.above below.depth (stages.Length below.above leaf value))
+            (moment (S.sizes steps.old) (S.view steps.old) read_set.now left.old)
+            self.new (moment (S.sizes steps.new) (S.view steps.new) read_set.now left.new) }
+    {
+        let _ = read_set;
+        *left -= 1;
+        let bytes = read_leaf_word(steps, below.above, leaf, 1);
+        if bytes == 0 || bytes > 64 {
+            let stage = Stage::Length {
+                stamp: below.above,
+                leaf,
+                value,
+            };
+            self.descent = Descent {
+                depth: below.depth,
+                stage,
+            };
+            self.descent.read_at(stage, key, bytes);
+            return Err(true);
+        }
+        Ok(LeafSeen {
+            stamp: below.above,
+            leaf,
+            value,
+            count: bytes as usize,
+        })
+    }
+
+    /// Reads the first word of its key, and compares it.
+    #[inline(always)]
+    fn compare_first<S: Steps>(
+        &mut self,
+        steps: &mut S,
+        read_set: &ReadSet,
+        key: &[u8],
+        left: &mut u32,
+        depth: usize,
+        seen: LeafSeen,
+    )
+        requires few { length key.now ≤ 64 }
+        requires left { 0 < left.old }
+        requires found { IsFound key.now (finding_at self.old.above depth (stages.Bytes seen 0 at_first))
+            (moment (S.sizes steps.old) (S.view steps.old) read_set.now left.old) }
+        ensures only { S.only steps.old steps.new }
+        ensures left { left.new + 1 ≡ left.old }
+        ensures goes { (m : FindingOf) (a : Moment) →
+            Came key.now m a (finding_at self.old.above depth (stages.Bytes seen 0 at_first))
+            (moment (S.sizes steps.old) (S.view steps.old) read_set.now left.old) →
+            Came key.now m a self.new (moment (S.sizes steps.new) (S.view steps.new) read_set.now left.new) }
+    {
+        let _ = read_set;
+        *left -= 1;
+        let word = read_leaf_word(steps, seen.stamp, seen.leaf, 2);
+        let stage = Stage::Bytes {
+            seen,
+            number: 0,
+            before: Beside {
+                compared: Compared::Same,
+                byte: 0,
+            },
+        };
+        self.descent = Descent { depth, stage };
+        self.descent.read_at(stage, key, word);
+    }
+}
