@@ -1,5 +1,9 @@
 -- How paths stand to the lower end of a range.
-use Rattle.std.proofs.Common.{◌≡◌, ℕ, true, false, ◌+◌, ◌<◌, ◌≤◌, List, [], ◌∷◌, ◌++◌, length, get_or, take, drop, inl, inr, refl, sym, ap, ◌∙◌, subst, arith, append-nil, append_assoc, ⊎_elim, length-append}
+use Rattle.std.proofs.Common.{◌≡◌, ℕ, true, false, ◌+◌, ◌<◌, ◌≤◌, List, [], ◌∷◌, ◌++◌, length, get_or, take, drop, inl, inr, refl, sym, ap, ◌∙◌, subst, arith, append-nil, append_assoc, ⊎_elim, length-append, nat_cmp}
+use Rattle.std.specs.Cmp.Lexicographic.{slice_cmp}
+use Rattle.std.specs.Ordering.{is_lt}
+use Rattle.std.specs.declared.cmp.Ordering.{Ordering}
+use Rattle.std.specs.declared.cmp.Ordering.TheVariants.{Less, Equal, Greater}
 use Rattle.std.proofs.Math.Seq.{take-length}
 use Rattle.std.proofs.lemmas.Bool.{eqb-false, eqb-true}
 use Rattle.std.proofs.lemmas.List.{take-append-drop, take_more, get_or_append_left}
@@ -9,7 +13,7 @@ use Rattle.art_look.specs.declared.fronts.Front.TheVariants.{Within, Beyond}
 use Rattle.art_path.specs.Common.{IsCommon}
 use Rattle.art_tree.specs.Looks.{Before}
 use Rattle.art_tree.specs.Tree.{Begins}
-use Rattle.art_tree.proofs.Order.{before_byte, before_front, before_longer, not_before_front}
+use Rattle.art_tree.proofs.Order.{before_byte, before_front, before_longer, before_not, not_before_front}
 use Rattle.art_tree.proofs.Paths.{begins_more, next_byte}
 use Rattle.art_tree.proofs.Part.{begins_drop, begins_take}
 
@@ -95,3 +99,21 @@ within_begins Beyond lo p b is same = cc
 pub not_within_apart : (f : Front) (lo p : List ℕ) (b : ℕ) → IsFront f lo p → is_within f lo p b ≡ false → Begins (p ++ b ∷ []) lo → ⊥
 not_within_apart Within lo p b is apart begins = eqb-false (get_or lo (length p) 0) b apart (next_byte p lo (get_or lo (length p) 0) b (next_begins p lo (length p) is.1 (sym (begins_take p lo is.0))) begins)
 not_within_apart Beyond lo p b past apart begins = past_apart lo p b past begins
+
+-- ---- whether a text stands before another, by how it stands to that as a lower end
+
+not_less : (o : Ordering) → (o ≡ Less → ⊥) → is_lt o ≡ false
+not_less Less never = absurd (never refl)
+not_less Equal never = refl
+not_less Greater never = refl
+
+pub past_not_less : (lo p : List ℕ) → IsPast lo p → is_lt (slice_cmp nat_cmp p lo) ≡ false
+past_not_less lo p past = not_less (slice_cmp nat_cmp p lo) (λ before.
+    ⊎_elim (λ (e : Before lo p). before_not lo p e before) (λ (f : Begins lo p). not_before_front lo p f before) past)
+
+pub within_less : (lo p : List ℕ) → IsFront Within lo p → is_lt (slice_cmp nat_cmp p lo) ≡ true
+within_less lo p is = more is.0.0 is.0.1
+  where
+    more : (rest : List ℕ) → p ++ rest ≡ lo → is_lt (slice_cmp nat_cmp p lo) ≡ true
+    more [] all = let same = ap length (sym (append-nil p) ∙ all) in absurd (omega (arith, same, is.1))
+    more (a ∷ rest) all = ap is_lt (subst (Before p) all (before_more p a rest))

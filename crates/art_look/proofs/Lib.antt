@@ -8,6 +8,7 @@ pub mod Driven
 mod Ends
 pub mod GivenUp
 pub mod Going
+mod JustPast
 pub mod Parts
 mod Pinned
 pub mod SeekEnds

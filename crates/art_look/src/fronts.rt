@@ -14,6 +14,7 @@ pub enum Front {
 }
 
 /// How the path stands to the lower end: none where it is before it and does not begin it.
+#[inline(always)]
 pub(crate) fn front_of(lo: &[u8], path: &[u8]) -> Option<Front>
     ensures { IsFound lo.now path.now result }
 {
@@ -31,6 +32,7 @@ pub(crate) fn front_of(lo: &[u8], path: &[u8]) -> Option<Front>
 }
 
 /// The byte from which on the least child is looked for: the lower end's next one behind the path, or the least of all.
+#[inline(always)]
 pub(crate) fn low_at(front: Front, lo: &[u8], path: &[u8]) -> u8
     requires { IsFront front lo.now path.now }
     ensures { result ≡ low_at front lo.now path.now }

@@ -7,16 +7,16 @@ ghost use Rattle.art_look.specs.Looks.{stage_below};
 ghost use Rattle.art_look.specs.declared.looks.LookStage.TheVariants as lookstages;
 ghost use Rattle.art_look.specs.Seen.{bound_at, nearer, row_within};
 ghost use Rattle.art_look.specs.Table.{end_at};
-ghost use Rattle.art_step.specs.Deeds.{key_of};
+ghost use Rattle.art_step.specs.Deeds.{bound_of, key_of};
+ghost use Rattle.art_tree.specs.Looks.{after};
 
 use crate::PathBuffer;
-use crate::fronts::Front;
-use crate::path_buffers::copied;
+use crate::fronts::{Front, front_of};
+use crate::path_buffers::{copied, joined};
 use art_cell::{Cell, Link, Node};
 use art_find::{LeafSeen, NodeSeen};
 use art_key::{Bound, Key};
 use art_machine::{Action, Answer};
-use art_path::after;
 use art_step::Stamp;
 
 /// How far a look sees that ends at a path.
@@ -367,9 +367,24 @@ impl Reached {
     {
         Seen {
             lo: copied(lo),
-            hi: nearer(end_at(self.reach, path_buffer.path.as_slice()), hi),
-            row: self.value.and_then(|value| row_within(lo, hi, path_buffer.key.as_slice(), value)),
+            hi: nearer_end(self.reach, path_buffer.path.as_slice(), hi),
+            row: match self.value {
+                Some(value) => row_within(lo, hi, path_buffer.key.as_slice(), value),
+                None => None,
+            },
         }
+    }
+}
+
+/// How far a look sees that ends at the path, in a range that ends at `hi`.
+#[inline(always)]
+fn nearer_end(reach: Reach, path: &[u8], hi: &Bound) -> Bound
+    requires { length path.now ≤ 64 }
+    ensures { result ≡ nearer (bound_at (end_at reach path.now)) hi.now }
+{
+    match hi {
+        Bound::At(_) => nearer(end_at(reach, path), hi),
+        Bound::End => end_at(reach, path),
     }
 }
 
@@ -380,9 +395,23 @@ fn end_at(reach: Reach, path: &[u8]) -> Bound
     ensures { result ≡ bound_at (end_at reach path.now) }
 {
     match reach {
-        Reach::Past => after(path),
+        Reach::Past => past(path),
         Reach::UpTo => Bound::At(copied(path)),
     }
+}
+
+/// The bound just above the path, made in place: where nobody reads it, nothing is left of it.
+#[inline(always)]
+fn past(path: &[u8]) -> Bound
+    requires { length path.now ≤ 64 }
+    ensures { bound_of result ≡ after path.now }
+{
+    for at in (0..path.len()).rev() {
+        if path[at] < 255 {
+            return Bound::At(joined(&path[..at], path[at] + 1));
+        }
+    }
+    Bound::End
 }
 
 /// The nearer of two ends.
@@ -405,7 +434,7 @@ fn row_within(lo: &[u8], hi: &Bound, key: &[u8], value: u64) -> Option<(Key, u64
     requires { length key.now ≤ 64 }
     ensures { result ≡ row_within lo.now hi.now key.now value }
 {
-    if key.cmp(lo).is_lt() || !is_below(key, hi) {
+    if is_less(key, lo) || !is_below(key, hi) {
         return None;
     }
     Some((copied(key), value))
@@ -418,7 +447,19 @@ fn is_below(key: &[u8], bound: &Bound) -> bool
     ensures { result ≡ is_before (at (key_of key.now)) bound.now }
 {
     match bound {
-        Bound::At(end) => key.cmp(end.as_slice()).is_lt(),
+        Bound::At(end) => is_less(key, end.as_slice()),
         Bound::End => true,
+    }
+}
+
+/// Whether the one text stands before the other, by their bytes.
+#[inline(always)]
+fn is_less(one: &[u8], other: &[u8]) -> bool
+    ensures { result ≡ is_before (at (key_of one.now)) (at (key_of other.now)) }
+{
+    match front_of(other, one) {
+        Some(Front::Within) => true,
+        Some(Front::Beyond) => false,
+        None => true,
     }
 }

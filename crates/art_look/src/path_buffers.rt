@@ -1,5 +1,5 @@
 //! The bytes that a look has read.
-ghost use Rattle.std.specs.Prelude.{◌≡◌, ◌+◌, ◌≤◌, ◌++◌, [], length, map};
+ghost use Rattle.std.specs.Prelude.{◌≡◌, ◌+◌, ◌≤◌, ◌<◌, ◌++◌, ◌∷◌, [], length, map};
 ghost use Rattle.std.specs.List.{range_with_len};
 ghost use Rattle.art_cell.specs.Words.{byte_of};
 
@@ -52,13 +52,27 @@ fn append(text: &mut Key, bytes: &[u8])
     text.try_extend_from_slice(bytes).unwrap();
 }
 
-/// The bytes as a key.
+/// The bytes as a key. No branch of it ends the program, so that where nobody reads the key, nothing is left of it.
 #[inline(always)]
 pub(crate) fn copied(bytes: &[u8]) -> Key
     requires { length bytes.now ≤ 64 }
     ensures { result.items ≡ bytes.now }
 {
     let mut key = Key::new();
-    key.try_extend_from_slice(bytes).unwrap();
+    let fits = key.try_extend_from_slice(bytes).is_ok();
+    prove!(fits);
+    key
+}
+
+/// The bytes with one more as a key, as `copied` makes one.
+#[inline(always)]
+pub(crate) fn joined(front: &[u8], byte: u8) -> Key
+    requires { length front.now < 64 }
+    ensures { result.items ≡ front.now ++ byte ∷ [] }
+{
+    let mut key = Key::new();
+    let fits = key.try_extend_from_slice(front).is_ok();
+    prove!(fits);
+    key.push(byte);
     key
 }
