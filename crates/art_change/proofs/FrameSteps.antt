@@ -20,7 +20,7 @@ use Rattle.art_epoch.specs.declared.enter.Enter.{Enter}
 use Rattle.art_epoch.specs.declared.enter.Enter.TheVariants as enter
 use Rattle.art_epoch.specs.declared.stocks.Stock.{Stock}
 use Rattle.art_machine.proofs.Counting.{pinning_counts}
-use Rattle.art_machine.specs.Acting.{Answers, IsPlain}
+use Rattle.art_machine.specs.Acting.{Answers}
 use Rattle.art_machine.specs.declared.actions.Action.{Action}
 use Rattle.art_machine.specs.declared.actions.Action.TheVariants.{Begin, Read, ReadLeaf, Check, Settle, Upgrade, Claim, Write, WriteLeaf, Commit, Release}
 use Rattle.art_machine.specs.declared.actions.Action.TheVariants.{ClearBit, GiveBack, Free, ReadEpoch, StorePin, RaiseEpoch, ReadPin}

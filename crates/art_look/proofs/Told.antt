@@ -1,5 +1,5 @@
 -- What a step of a seek adds to the view: one step, and its event, if it made one.
-use Rattle.std.proofs.Common.{◌≡◌, ℕ, ◌+◌, Some, refl, ap, inl, inr, subst, arith}
+use Rattle.std.proofs.Common.{◌≡◌, ℕ, ◌+◌, Some, ap, inl, inr, subst}
 use Rattle.std.proofs.lemmas.Option.{same_Some}
 use Rattle.std.specs.Prelude.{None, Ok, Err}
 use Rattle.art_epoch.specs.Pins as pins
@@ -7,13 +7,13 @@ use Rattle.art_epoch.specs.declared.enter.Pinning.{Pinning}
 use Rattle.art_epoch.specs.declared.enter.Pinning.TheVariants.{Noting, Storing, Ended}
 use Rattle.art_machine.proofs.Counting.{look_counts, steps_made}
 use Rattle.art_machine.proofs.Silence.{plain_silent}
-use Rattle.art_machine.specs.Acting.{Answers, IsLook, goes_on, steps_in, telling}
+use Rattle.art_machine.specs.Acting.{Answers, IsLook, steps_in, telling}
 use Rattle.art_machine.specs.declared.actions.Action.{Action}
 use Rattle.art_machine.specs.declared.actions.Action.TheVariants.{Begin, Read, ReadLeaf, Check, Settle, ReadEpoch, StorePin}
 use Rattle.art_machine.specs.declared.actions.Answer.{Answer}
 use Rattle.art_machine.specs.declared.actions.Answer.TheVariants.{Begun, Word, Checked, Upgraded, Done}
 use Rattle.art_look.proofs.Parts.{walk_looks}
-use Rattle.art_look.specs.Asking.{MaySeek, stepped_by, told_by, walked}
+use Rattle.art_look.specs.Asking.{MaySeek, stepped_by, told_by}
 use Rattle.art_look.specs.Seeks.{asks_at}
 use Rattle.art_look.specs.declared.seeks.Seek.{Seek}
 use Rattle.art_look.specs.declared.seeks.SeekStage.{SeekStage}

@@ -1,9 +1,7 @@
 -- A look that settles the answer tells the event of the walk; any other step needs no effects.
-use Rattle.std.proofs.Common.{◌≡◌, ◌∙◌, Some, inl, inr, sym, ap, subst}
-use Rattle.std.specs.Prelude.{None, Option}
+use Rattle.std.proofs.Common.{◌∙◌, Some, inl, inr, sym, ap, subst}
 use Rattle.art_find.proofs.Looks.{allowed_look}
 use Rattle.art_find.specs.Findings.{IsToSettle}
-use Rattle.art_machine.proofs.AnswerKinds.{answers_any}
 use Rattle.art_machine.specs.Acting.{IsAllowed, telling, tells}
 use Rattle.art_machine.specs.declared.actions.Action.{Action}
 use Rattle.art_machine.specs.declared.actions.Action.TheVariants.{Settle}
