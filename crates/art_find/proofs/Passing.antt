@@ -6,7 +6,7 @@ use Rattle.art_find.proofs.Descending.{on_looked, on_still, on_then, one_made}
 use Rattle.art_find.proofs.Hearing.{CameTo, heard, looked_on}
 use Rattle.art_find.specs.Descents.{Fits, IsExact, Stays, asks, ended_at, most_steps, stage_below, staged, stands_on}
 use Rattle.art_find.specs.Findings.{Enters, FindingFits, Keeps, LookedOn}
-use Rattle.art_find.specs.Nodes.{Arrives, Came, CameOff, IsFound, Moment, moment}
+use Rattle.art_find.specs.Nodes.{Arrives, Came, CameOff, FitsAt, Moment, moment}
 use Rattle.art_find.specs.declared.descents.NodeSeen.{NodeSeen}
 use Rattle.art_find.specs.declared.findings.Above.{Above}
 use Rattle.art_find.specs.declared.findings.Finding.{Finding}
@@ -49,7 +49,7 @@ below_keeps x (node n) depth above read_set = (refl, refl)
 pub came_now : (k : List ℕ) (m : Finding) (a : Moment) → Came k m a m a
 came_now k m a = record { sizes = refl; made = refl; on = on_still a.sizes k m a.kept a.view }
 
-pub found_on : (k : List ℕ) (m : Finding) (a : Moment) (n : Finding) (b : Moment) → Came k m a n b → IsFound k m a → IsFound k n b
+pub found_on : (k : List ℕ) (m : Finding) (a : Moment) (n : Finding) (b : Moment) → Came k m a n b → FitsAt k m a → FitsAt k n b
 found_on k m a n b came f = (f.0, f.1, subst (λ (z : Sizes). FindingFits z k f.0 n b.kept f.1 b.view) (sym came.sizes) (came.on.fits f.0 f.1 f.2))
 
 -- nothing more was done

@@ -45,12 +45,12 @@ Reaches at (Ok x) k m a n b = Came k m a (at x) b
 Reaches at (Err on) k m a n b = Arrives on k m a n b
 
 -- from wherever steps had come to the one, they reach the other
-abbrev pub GoesOn : {A : Type 0} → (A → Finding) → Result A Bool → List ℕ → Finding → Moment → Finding → Moment → Type 0
-GoesOn at r k n b o c = (m : Finding) (a : Moment) → Came k m a n b → Reaches at r k m a o c
+abbrev pub LeadsOn : {A : Type 0} → (A → Finding) → Result A Bool → List ℕ → Finding → Moment → Finding → Moment → Type 0
+LeadsOn at r k n b o c = (m : Finding) (a : Moment) → Came k m a n b → Reaches at r k m a o c
 
 -- the finding knows what it should
-abbrev pub IsFound : List ℕ → Finding → Moment → Type 0
-IsFound k m a = (what : Option ℕ → Deed) × (u : View) × FindingFits a.sizes k what m a.kept u a.view
+abbrev pub FitsAt : List ℕ → Finding → Moment → Type 0
+FitsAt k m a = (what : Option ℕ → Deed) × (u : View) × FindingFits a.sizes k what m a.kept u a.view
 
 -- ---- where it stands, below or on a cell with this one above it
 
@@ -58,13 +58,13 @@ abbrev pub finding_at : Option Above → ℕ → Stage → Finding
 finding_at above depth s = record { descent = record { depth = depth; stage = s }; above = above }
 
 -- the cell that names this is stamped
-abbrev pub at_child : Option Above → Child → Finding
-at_child above c = finding_at above c.depth (stage.Child c.stamp c.link)
+abbrev pub finding_child : Option Above → Child → Finding
+finding_child above c = finding_at above c.depth (stage.Child c.stamp c.link)
 
 -- and checked
-abbrev pub at_below : Option Above → Below → Finding
-at_below above b = finding_at above b.depth (stage_below b.above b.link)
+abbrev pub finding_below : Option Above → Below → Finding
+finding_below above b = finding_at above b.depth (stage_below b.above b.link)
 
 -- a node is searched
-abbrev pub at_search : Option Above → NodeSearch → Finding
-at_search above f = finding_at above f.depth (staged f.sought f.seen)
+abbrev pub finding_search : Option Above → NodeSearch → Finding
+finding_search above f = finding_at above f.depth (staged f.sought f.seen)

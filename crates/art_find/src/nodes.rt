@@ -7,11 +7,11 @@
 //! key but the first.
 //!
 //! A step answers what the next one needs; or, where it stops, whether the finding goes on (`Err`): it restarts where a version word
-//! was locked or changed. Each contract says that from wherever steps had come to the one finding, they reach the other (`GoesOn`), so
+//! was locked or changed. Each contract says that from wherever steps had come to the one finding, they reach the other (`LeadsOn`), so
 //! that the steps of a node are put together by their contracts alone.
 ghost use Rattle.std.specs.Prelude.{◌≡◌, ◌+◌, ◌<◌, ◌≤◌, Ok, IfOk, length};
 ghost use Rattle.art_find.specs.Compares.{at_first};
-ghost use Rattle.art_find.specs.Nodes.{Arrives, Came, GoesOn, IsFound, Moment, at_below, at_child, at_search, finding_at, moment};
+ghost use Rattle.art_find.specs.Nodes.{Arrives, Came, LeadsOn, FitsAt, Moment, finding_below, finding_child, finding_search, finding_at, moment};
 ghost use Rattle.art_find.specs.declared.descents.Stage.TheVariants as stages;
 ghost use Rattle.art_find.specs.declared.findings.Finding.{Finding as FindingOf};
 
@@ -41,7 +41,7 @@ impl Finding {
     ) -> bool
         requires few { length key.now ≤ 64 }
         requires left { 0 < left.old }
-        requires found { IsFound key.now self.old
+        requires found { FitsAt key.now self.old
             (moment (S.sizes steps.old) (S.view steps.old) read_set.old left.old) }
         ensures only { S.only steps.old steps.new }
         ensures left { 0 < left.new }
@@ -81,12 +81,12 @@ impl Finding {
     ) -> Result<Below, bool>
         requires few { length key.now ≤ 64 }
         requires left { 3 < left.old }
-        requires found { IsFound key.now self.old
+        requires found { FitsAt key.now self.old
             (moment (S.sizes steps.old) (S.view steps.old) read_set.old left.old) }
         ensures only { S.only steps.old steps.new }
         ensures left { 0 < left.new }
         ensures less { left.new ≤ left.old }
-        ensures goes { GoesOn (at_below self.new.above) result key.now self.old
+        ensures goes { LeadsOn (finding_below self.new.above) result key.now self.old
             (moment (S.sizes steps.old) (S.view steps.old) read_set.old left.old)
             self.new (moment (S.sizes steps.new) (S.view steps.new) read_set.new left.new) }
     {
@@ -112,12 +112,12 @@ impl Finding {
     ) -> Result<Below, bool>
         requires few { length key.now ≤ 64 }
         requires left { 3 < left.old }
-        requires found { IsFound key.now (finding_at self.old.above self.old.descent.depth stages.Start)
+        requires found { FitsAt key.now (finding_at self.old.above self.old.descent.depth stages.Start)
             (moment (S.sizes steps.old) (S.view steps.old) read_set.old left.old) }
         ensures only { S.only steps.old steps.new }
         ensures left { 0 < left.new }
         ensures less { left.new < left.old }
-        ensures goes { GoesOn (at_below self.new.above) result key.now
+        ensures goes { LeadsOn (finding_below self.new.above) result key.now
             (finding_at self.old.above self.old.descent.depth stages.Start)
             (moment (S.sizes steps.old) (S.view steps.old) read_set.old left.old)
             self.new (moment (S.sizes steps.new) (S.view steps.new) read_set.new left.new) }
@@ -138,11 +138,11 @@ impl Finding {
     ) -> Result<Stamp, bool>
         requires few { length key.now ≤ 64 }
         requires left { 0 < left.old }
-        requires found { IsFound key.now (finding_at self.old.above self.old.descent.depth stages.Start)
+        requires found { FitsAt key.now (finding_at self.old.above self.old.descent.depth stages.Start)
             (moment (S.sizes steps.old) (S.view steps.old) read_set.old left.old) }
         ensures only { S.only steps.old steps.new }
         ensures left { left.new + 1 ≡ left.old }
-        ensures goes { GoesOn (λ x. finding_at self.new.above self.new.descent.depth (stages.Anchor x)) result key.now
+        ensures goes { LeadsOn (λ x. finding_at self.new.above self.new.descent.depth (stages.Anchor x)) result key.now
             (finding_at self.old.above self.old.descent.depth stages.Start)
             (moment (S.sizes steps.old) (S.view steps.old) read_set.old left.old)
             self.new (moment (S.sizes steps.new) (S.view steps.new) read_set.new left.new) }
@@ -177,11 +177,11 @@ impl Finding {
     ) -> Result<Child, bool>
         requires few { length key.now ≤ 64 }
         requires left { 0 < left.old }
-        requires found { IsFound key.now (finding_at self.old.above self.old.descent.depth (stages.Anchor stamp))
+        requires found { FitsAt key.now (finding_at self.old.above self.old.descent.depth (stages.Anchor stamp))
             (moment (S.sizes steps.old) (S.view steps.old) read_set.old left.old) }
         ensures only { S.only steps.old steps.new }
         ensures left { left.new + 1 ≡ left.old }
-        ensures goes { GoesOn (at_child self.new.above) result key.now
+        ensures goes { LeadsOn (finding_child self.new.above) result key.now
             (finding_at self.old.above self.old.descent.depth (stages.Anchor stamp))
             (moment (S.sizes steps.old) (S.view steps.old) read_set.old left.old)
             self.new (moment (S.sizes steps.new) (S.view steps.new) read_set.new left.new) }
@@ -217,14 +217,14 @@ impl Finding {
     ) -> Result<Below, bool>
         requires few { length key.now ≤ 64 }
         requires left { 8 ≤ left.old }
-        requires found { IsFound key.now (at_below self.old.above below)
+        requires found { FitsAt key.now (finding_below self.old.above below)
             (moment (S.sizes steps.old) (S.view steps.old) read_set.old left.old) }
         ensures only { S.only steps.old steps.new }
         ensures left { 0 < left.new }
         ensures less { left.new ≤ left.old }
         ensures further { IfOk result (λ b. left.new < left.old) }
-        ensures goes { GoesOn (at_below self.new.above) result key.now
-            (at_below self.old.above below)
+        ensures goes { LeadsOn (finding_below self.new.above) result key.now
+            (finding_below self.old.above below)
             (moment (S.sizes steps.old) (S.view steps.old) read_set.old left.old)
             self.new (moment (S.sizes steps.new) (S.view steps.new) read_set.new left.new) }
     {
@@ -247,12 +247,12 @@ impl Finding {
     ) -> Result<Below, bool>
         requires few { length key.now ≤ 64 }
         requires left { 8 ≤ left.old }
-        requires found { IsFound key.now (finding_at self.old.above below.depth (stages.Below below.above node))
+        requires found { FitsAt key.now (finding_at self.old.above below.depth (stages.Below below.above node))
             (moment (S.sizes steps.old) (S.view steps.old) read_set.old left.old) }
         ensures only { S.only steps.old steps.new }
         ensures left { 0 < left.new }
         ensures less { left.new < left.old }
-        ensures goes { GoesOn (at_below self.new.above) result key.now
+        ensures goes { LeadsOn (finding_below self.new.above) result key.now
             (finding_at self.old.above below.depth (stages.Below below.above node))
             (moment (S.sizes steps.old) (S.view steps.old) read_set.old left.old)
             self.new (moment (S.sizes steps.new) (S.view steps.new) read_set.new left.new) }
@@ -278,11 +278,11 @@ impl Finding {
     ) -> Result<Stamp, bool>
         requires few { length key.now ≤ 64 }
         requires left { 0 < left.old }
-        requires found { IsFound key.now (finding_at self.old.above below.depth (stages.Below below.above node))
+        requires found { FitsAt key.now (finding_at self.old.above below.depth (stages.Below below.above node))
             (moment (S.sizes steps.old) (S.view steps.old) read_set.old left.old) }
         ensures only { S.only steps.old steps.new }
         ensures left { left.new + 1 ≡ left.old }
-        ensures goes { GoesOn (λ y. finding_at self.new.above below.depth (stages.Both below.above y node)) result key.now
+        ensures goes { LeadsOn (λ y. finding_at self.new.above below.depth (stages.Both below.above y node)) result key.now
             (finding_at self.old.above below.depth (stages.Below below.above node))
             (moment (S.sizes steps.old) (S.view steps.old) read_set.old left.old)
             self.new (moment (S.sizes steps.new) (S.view steps.new) read_set.new left.new) }
@@ -319,11 +319,11 @@ impl Finding {
     ) -> Result<(), bool>
         requires few { length key.now ≤ 64 }
         requires left { 0 < left.old }
-        requires found { IsFound key.now (finding_at self.old.above below.depth (stages.Both below.above stamp node))
+        requires found { FitsAt key.now (finding_at self.old.above below.depth (stages.Both below.above stamp node))
             (moment (S.sizes steps.old) (S.view steps.old) read_set.old left.old) }
         ensures only { S.only steps.old steps.new }
         ensures left { left.new + 1 ≡ left.old }
-        ensures goes { GoesOn (λ x. finding_at self.new.above below.depth (stages.Header stamp node)) result key.now
+        ensures goes { LeadsOn (λ x. finding_at self.new.above below.depth (stages.Header stamp node)) result key.now
             (finding_at self.old.above below.depth (stages.Both below.above stamp node))
             (moment (S.sizes steps.old) (S.view steps.old) read_set.old left.old)
             self.new (moment (S.sizes steps.new) (S.view steps.new) read_set.new left.new) }
@@ -368,12 +368,12 @@ impl Finding {
     ) -> Result<NodeSearch, bool>
         requires few { length key.now ≤ 64 }
         requires left { 0 < left.old }
-        requires found { IsFound key.now (finding_at self.old.above depth (stages.Header stamp node))
+        requires found { FitsAt key.now (finding_at self.old.above depth (stages.Header stamp node))
             (moment (S.sizes steps.old) (S.view steps.old) read_set.old left.old) }
         ensures only { S.only steps.old steps.new }
         ensures left { left.new + 1 ≡ left.old }
         ensures deep { IfOk result (λ r. r.depth < length key.now) }
-        ensures goes { GoesOn (at_search self.new.above) result key.now
+        ensures goes { LeadsOn (finding_search self.new.above) result key.now
             (finding_at self.old.above depth (stages.Header stamp node))
             (moment (S.sizes steps.old) (S.view steps.old) read_set.old left.old)
             self.new (moment (S.sizes steps.new) (S.view steps.new) read_set.new left.new) }
@@ -412,13 +412,13 @@ impl Finding {
         requires few { length key.now ≤ 64 }
         requires left { 2 < left.old }
         requires deep { found.depth < length key.now }
-        requires found { IsFound key.now (at_search self.old.above found)
+        requires found { FitsAt key.now (finding_search self.old.above found)
             (moment (S.sizes steps.old) (S.view steps.old) read_set.old left.old) }
         ensures only { S.only steps.old steps.new }
         ensures left { 2 < left.new }
         ensures less { left.new ≤ left.old }
-        ensures goes { GoesOn (λ place. finding_at self.new.above found.depth (stages.Slot found.seen place)) result key.now
-            (at_search self.old.above found)
+        ensures goes { LeadsOn (λ place. finding_at self.new.above found.depth (stages.Slot found.seen place)) result key.now
+            (finding_search self.old.above found)
             (moment (S.sizes steps.old) (S.view steps.old) read_set.old left.old)
             self.new (moment (S.sizes steps.new) (S.view steps.new) read_set.new left.new) }
     {
@@ -465,11 +465,11 @@ impl Finding {
     ) -> Result<Child, bool>
         requires few { length key.now ≤ 64 }
         requires left { 0 < left.old }
-        requires found { IsFound key.now (finding_at self.old.above depth (stages.Slot seen place))
+        requires found { FitsAt key.now (finding_at self.old.above depth (stages.Slot seen place))
             (moment (S.sizes steps.old) (S.view steps.old) read_set.old left.old) }
         ensures only { S.only steps.old steps.new }
         ensures left { left.new + 1 ≡ left.old }
-        ensures goes { GoesOn (at_child self.new.above) result key.now
+        ensures goes { LeadsOn (finding_child self.new.above) result key.now
             (finding_at self.old.above depth (stages.Slot seen place))
             (moment (S.sizes steps.old) (S.view steps.old) read_set.old left.old)
             self.new (moment (S.sizes steps.new) (S.view steps.new) read_set.new left.new) }
@@ -502,11 +502,11 @@ impl Finding {
     ) -> Result<Below, bool>
         requires few { length key.now ≤ 64 }
         requires left { 0 < left.old }
-        requires found { IsFound key.now (at_child self.old.above child)
+        requires found { FitsAt key.now (finding_child self.old.above child)
             (moment (S.sizes steps.old) (S.view steps.old) read_set.old left.old) }
         ensures only { S.only steps.old steps.new }
         ensures left { left.new + 1 ≡ left.old }
-        ensures goes { GoesOn (at_below self.new.above) result key.now (at_child self.old.above child)
+        ensures goes { LeadsOn (finding_below self.new.above) result key.now (finding_child self.old.above child)
             (moment (S.sizes steps.old) (S.view steps.old) read_set.old left.old)
             self.new (moment (S.sizes steps.new) (S.view steps.new) read_set.new left.new) }
     {
@@ -545,12 +545,12 @@ impl Finding {
     ) -> Result<Below, bool>
         requires few { length key.now ≤ 64 }
         requires left { 3 < left.old }
-        requires found { IsFound key.now (finding_at self.old.above below.depth (stages.Value below.above leaf))
+        requires found { FitsAt key.now (finding_at self.old.above below.depth (stages.Value below.above leaf))
             (moment (S.sizes steps.old) (S.view steps.old) read_set.now left.old) }
         ensures only { S.only steps.old steps.new }
         ensures left { 0 < left.new }
         ensures less { left.new < left.old }
-        ensures goes { GoesOn (at_below self.new.above) result key.now
+        ensures goes { LeadsOn (finding_below self.new.above) result key.now
             (finding_at self.old.above below.depth (stages.Value below.above leaf))
             (moment (S.sizes steps.old) (S.view steps.old) read_set.now left.old)
             self.new (moment (S.sizes steps.new) (S.view steps.new) read_set.now left.new) }
@@ -573,7 +573,7 @@ impl Finding {
         leaf: u32,
     ) -> u64
         requires left { 0 < left.old }
-        requires found { IsFound key.now (finding_at self.now.above below.depth (stages.Value below.above leaf))
+        requires found { FitsAt key.now (finding_at self.now.above below.depth (stages.Value below.above leaf))
             (moment (S.sizes steps.old) (S.view steps.old) read_set.now left.old) }
         ensures only { S.only steps.old steps.new }
         ensures left { left.new + 1 ≡ left.old }
@@ -603,11 +603,11 @@ impl Finding {
     ) -> Result<LeafSeen, bool>
         requires few { length key.now ≤ 64 }
         requires left { 0 < left.old }
-        requires found { IsFound key.now (finding_at self.old.above below.depth (stages.Length below.above leaf value))
+        requires found { FitsAt key.now (finding_at self.old.above below.depth (stages.Length below.above leaf value))
             (moment (S.sizes steps.old) (S.view steps.old) read_set.now left.old) }
         ensures only { S.only steps.old steps.new }
         ensures left { left.new + 1 ≡ left.old }
-        ensures goes { GoesOn (λ x. finding_at self.new.above below.depth (stages.Bytes x 0 at_first)) result key.now
+        ensures goes { LeadsOn (λ x. finding_at self.new.above below.depth (stages.Bytes x 0 at_first)) result key.now
             (finding_at self.old.above below.depth (stages.Length below.above leaf value))
             (moment (S.sizes steps.old) (S.view steps.old) read_set.now left.old)
             self.new (moment (S.sizes steps.new) (S.view steps.new) read_set.now left.new) }
@@ -649,7 +649,7 @@ impl Finding {
     )
         requires few { length key.now ≤ 64 }
         requires left { 0 < left.old }
-        requires found { IsFound key.now (finding_at self.old.above depth (stages.Bytes seen 0 at_first))
+        requires found { FitsAt key.now (finding_at self.old.above depth (stages.Bytes seen 0 at_first))
             (moment (S.sizes steps.old) (S.view steps.old) read_set.now left.old) }
         ensures only { S.only steps.old steps.new }
         ensures left { left.new + 1 ≡ left.old }

@@ -1,6 +1,6 @@
 use Rattle.std.proofs.Common.{sym, subst, arith}
 use Rattle.art_find.proofs.Passing.{came_now, found_on}
-use Rattle.art_find.specs.Nodes.{Came, at_below, finding_at, moment}
+use Rattle.art_find.specs.Nodes.{Came, finding_below, finding_at, moment}
 use Rattle.art_find.specs.declared.descents.Stage.{Stage}
 use Rattle.art_find.proofs.findings.Finding.pass_nodes.Goals as goal
 
@@ -11,7 +11,7 @@ loop-left-init g c =
     let e = c.in-Ok.ensures in
     let here = c.args.self.now in
     let now = moment (g.S.Steps.sizes c.args.steps.now) (g.S.Steps.view c.args.steps.now) c.args.read_set.now c.args.left.now in
-    let next = at_below s.self.above c.in-Ok.below in
+    let next = finding_below s.self.above c.in-Ok.below in
     let later = moment (g.S.Steps.sizes s.steps) (g.S.Steps.view s.steps) s.read_set s.left in
     record {
       only = e.only;
@@ -28,9 +28,9 @@ loop-left-preserved g c =
     let k = c.args.key.now in
     let s = c.pass_link.new in
     let e = c.in-Ok-pass_link.ensures in
-    let here = at_below l.self.above l.below in
+    let here = finding_below l.self.above l.below in
     let now = moment (g.S.Steps.sizes l.steps) (g.S.Steps.view l.steps) l.read_set l.left in
-    let next = at_below s.self.above c.in-Ok-pass_link.next in
+    let next = finding_below s.self.above c.in-Ok-pass_link.next in
     let later = moment (g.S.Steps.sizes s.steps) (g.S.Steps.view s.steps) s.read_set s.left in
     record {
       only = g.met.S.Steps.only_then c.args.steps.now l.steps s.steps i.only e.only;

@@ -1,7 +1,7 @@
 use Rattle.std.proofs.Common.{◌≡◌, Bool, Result, Err, rules, subst, sym}
 use Rattle.art_find.proofs.Passing.{came_now, found_on}
 use Rattle.art_find.specs.Compares.{at_first}
-use Rattle.art_find.specs.Nodes.{Reaches, at_below, finding_at, moment}
+use Rattle.art_find.specs.Nodes.{Reaches, finding_below, finding_at, moment}
 use Rattle.art_find.specs.declared.descents.Stage.TheVariants.{Bytes, Length, Value}
 use Rattle.art_find.specs.declared.straight.Below.{Below as BelowOf}
 use Rattle.art_find.proofs.findings.Finding.read_leaf.Goals as goal
@@ -19,7 +19,7 @@ pub returns-in_err-seen-clause-goes : goal.returns-in_err-seen-clause-goes
 returns-in_err-seen-clause-goes g c = λ m a came.
     let s = c.leaf_count.new in
     let is : c.from_residual.result ≡ Err c.in_err-seen.field-0.0 = search rules in
-    subst (λ (r : Result BelowOf Bool). Reaches (at_below s.self.above) r c.args.key.now m a s.self (moment (g.S.Steps.sizes s.steps) (g.S.Steps.view s.steps) c.args.read_set.now s.left)) (sym is)
+    subst (λ (r : Result BelowOf Bool). Reaches (finding_below s.self.above) r c.args.key.now m a s.self (moment (g.S.Steps.sizes s.steps) (g.S.Steps.view s.steps) c.args.read_set.now s.left)) (sym is)
     (c.in_err-seen.ensures.goes m a (c.leaf_value-value.ensures.goes m a came))
 
 pub compare_first-requires-clause-found : goal.compare_first-requires-clause-found

@@ -5,7 +5,7 @@ use Rattle.art_find.proofs.Counting.{staged_going, staged_later}
 use Rattle.art_find.proofs.Passing.{came_now, came_then, found_on, heard_on, staged_exact, staged_stands}
 use Rattle.art_find.proofs.Stages.{node_on, node_still, node_word, staged_fits}
 use Rattle.art_find.specs.Descents.{staged}
-use Rattle.art_find.specs.Nodes.{Came, IsFound, finding_at, moment}
+use Rattle.art_find.specs.Nodes.{Came, FitsAt, finding_at, moment}
 use Rattle.art_find.specs.ReadSets.{node_of}
 use Rattle.art_find.specs.declared.descents.Stage.{Stage}
 use Rattle.art_find.specs.declared.descents.Stage.TheVariants.{Keys}
@@ -26,7 +26,7 @@ read_word-word-requires g c =
     let depth = c.args.found.depth in
     let seen = c.args.found.seen in
     let now = moment z v l.read_set l.left in
-    let b = subst (λ (r : Sought). IsFound k (finding_at l.self.above depth (staged r seen)) now) c.in-Keys.is l.invariant.found in
+    let b = subst (λ (r : Sought). FitsAt k (finding_at l.self.above depth (staged r seen)) now) c.in-Keys.is l.invariant.found in
     record {
       allowed = subst (λ (i : ℕ). IsAllowed z None v (Read seen.stamp (10 + i))) (sym c.from-place.ensures) (allowed z k b.0 depth (Keys seen c.in-Keys.number) b.1 v b.2.descent);
     }
@@ -73,7 +73,7 @@ loop-sought-preserved g c =
     let row = subst (λ (p : ℕ). read.Outcome z v w y (10 + p) word) c.from-place.ensures c.read_word-word.ensures.row in
     let noted = subst (λ (p : ℕ). node_of c.note.new.self ≡ set (node_of l.read_set) (10 + p) (Some word)) c.from-place.ensures c.note.ensures.node in
     let small : get_or k depth 0 < 256 = omega (arith, c.type_inv.key depth) in
-    let b = subst (λ (q : Sought). IsFound k (finding_at above depth (staged q seen)) now) c.in-Keys.is l.invariant.found in
+    let b = subst (λ (q : Sought). FitsAt k (finding_at above depth (staged q seen)) now) c.in-Keys.is l.invariant.found in
     let step = came_then k here now next later (g.met.S.Steps.only_sizes l.steps s c.read_word-word.ensures.only) (omega (arith, l.invariant.left))
     (heard_on z k v w here next l.read_set c.note.new.self (Read y (10 + i)) (word_told word) refl (λ d. row) refl
     (staged_later depth i r seen b.2.descent.1.few c.next_word-sought.ensures.later) (staged_stands r seen) (staged_going r seen) (staged_exact r seen)

@@ -1,7 +1,7 @@
 -- The finding has come to what the search says.
 use Rattle.std.proofs.Common.{◌<◌, ◌≤◌}
 use Rattle.art_find.specs.Descents.{staged}
-use Rattle.art_find.specs.Nodes.{Came, IsFound, Moment, finding_at, moment}
+use Rattle.art_find.specs.Nodes.{Came, FitsAt, Moment, finding_at, moment}
 use Rattle.art_find.specs.declared.findings.Finding.{Finding}
 use Rattle.art_find.proofs.findings.Finding.search_on.Given as goal
 
@@ -10,7 +10,7 @@ invariant-loop-sought g l = record {
   only : g.S.Steps.only l.initial.steps l.steps;
   left : 2 < l.left;
   less : l.left ≤ l.initial.left;
-  found : IsFound l.key (finding_at l.self.above l.depth (staged l.sought l.seen)) (moment (g.S.Steps.sizes l.steps) (g.S.Steps.view l.steps) l.read_set l.left);
+  found : FitsAt l.key (finding_at l.self.above l.depth (staged l.sought l.seen)) (moment (g.S.Steps.sizes l.steps) (g.S.Steps.view l.steps) l.read_set l.left);
   goes : (m : Finding) (a : Moment) → Came l.key m a (finding_at l.initial.self.above l.depth (staged l.initial.sought l.seen)) (moment (g.S.Steps.sizes l.initial.steps) (g.S.Steps.view l.initial.steps) l.initial.read_set l.initial.left)
       → Came l.key m a (finding_at l.self.above l.depth (staged l.sought l.seen)) (moment (g.S.Steps.sizes l.steps) (g.S.Steps.view l.steps) l.read_set l.left);
 }
