@@ -24,13 +24,13 @@ use Rattle.art_find.proofs.Counting.{few_steps}
 use Rattle.art_find.proofs.Stages.{reads_on, tells_free}
 use Rattle.art_find.proofs.Allowed.{allowed}
 use Rattle.art_find.specs.Asking.{MayLook, WantsWord}
-use Rattle.art_find.specs.Descents.{IsExact, IsReading, StageFits, Stays, answer_at, asks, decided_at, ended_at, most_steps, stage_begun, stage_below, stage_checked, stands_on}
+use Rattle.art_find.specs.Descents.{IsReading, StageFits, Stays, answer_at, asks, decided_at, ended_at, most_steps, stage_begun, stage_below, stage_checked, stands_on}
 use Rattle.art_find.specs.Verdicts.{Says, value_of}
 use Rattle.art_find.specs.declared.descents.Descent.{Descent}
 use Rattle.art_find.specs.declared.descents.Stage.{Stage}
 use Rattle.art_find.specs.declared.descents.Stage.TheVariants.{Start, Anchor, Child, Below, Both, Header, Prefix, Keys, Slot, Value, Length, Bytes, Decided, Ended}
 use Rattle.art_find.specs.declared.descents.Verdict.{Verdict}
-use Rattle.art_find.specs.declared.descents.Verdict.TheVariants.{Found, Empty, LeafMismatch, PrefixMismatch, NoChild, Overlaps, Torn, Absent}
+use Rattle.art_find.specs.declared.descents.Verdict.TheVariants.{Found, Empty, LeafMismatch, PrefixMismatch, NoChild, Overlaps, Torn}
 use Rattle.art_epoch.proofs.Stocked.{stock_same}
 use Rattle.art_machine.proofs.AnswerKinds.{answers_plain, finds_word}
 use Rattle.art_machine.specs.Acting.{Answers, IsLook, IsPlain, goes_on, passed, telling}
@@ -212,11 +212,10 @@ decided_stage (Ended o) p is = cc
 pub record StandsThere (z : Sizes) (k : List ℕ) (m : Finding) (read_set : ReadSet) (early v : View) (t : Position) : Type 0 where
   pub reads : IsReading early v
   pub standing : IsStanding z k t read_set v
-  pub exact : t.verdict ≢ Absent
   pub settles : asks m.descent.stage ≡ Some (Settle t.stamp)
   pub answers : answer_at m.descent.stage ≡ value_of t.verdict
 
-module _ (z : Sizes) (k : List ℕ) (what : Option ℕ → Deed) (m : Finding) (read_set : ReadSet) (early v : View) (fits : FindingFits z k what m read_set early v) (exact : IsExact m.descent.stage) where
+module _ (z : Sizes) (k : List ℕ) (what : Option ℕ → Deed) (m : Finding) (read_set : ReadSet) (early v : View) (fits : FindingFits z k what m read_set early v) where
   pub stands_there : (t : Position) → position_at m ≡ Some t → StandsThere z k m read_set early v t
   stands_there t is =
       let p = map_some (position_of m) (decided_at m.descent.stage) t is in
@@ -227,7 +226,6 @@ module _ (z : Sizes) (k : List ℕ) (what : Option ℕ → Deed) (m : Finding) (
       record {
         reads = f.0;
         standing = subst (λ (s : Position). IsStanding z k s read_set v) p.2 standing;
-        exact = subst (λ (s : Position). s.verdict ≢ Absent) p.2 (subst IsExact at exact);
         settles = ap asks at ∙ ap (λ (s : Position). Some (Settle s.stamp)) p.2;
         answers = ap answer_at at ∙ ap (λ (s : Position). value_of s.verdict) p.2;
       }
@@ -301,16 +299,15 @@ place_off z d true x r v w row is = settle_off z d x r v w row is
 place_off z d false x r v w row is = check_off z d x r v w row is
 
 -- a leaf may come there, or it is known how the attempt ends
-pub place_comes : (z : Sizes) (k : List ℕ) (depth : ℕ) (x : Stamp) (o : Option Deed) (found : Verdict) (v w : View) → found ≢ Absent → entered_by found ≡ None → Says z k depth x found v
+pub place_comes : (z : Sizes) (k : List ℕ) (depth : ℕ) (x : Stamp) (o : Option Deed) (found : Verdict) (v w : View) → entered_by found ≡ None → Says z k depth x found v
     → check.Unchanged z v w x o → Comes found
-place_comes z k depth x o (Found l value) v w exact none says p = cc
-place_comes z k depth x o Empty v w exact none says p = tt
-place_comes z k depth x o (LeafMismatch l at byte) v w exact none says p = tt
-place_comes z k depth x o (PrefixMismatch n header at) v w exact none says p = tt
-place_comes z k depth x o (NoChild n header) v w exact none says p = tt
-place_comes z k depth x o Overlaps v w exact none says p = cc
-place_comes z k depth x o Torn v w exact none says p = absurd (says p.vouched.0 p.vouched.1 p.vouched.2)
-place_comes z k depth x o Absent v w exact none says p = absurd (exact refl)
+place_comes z k depth x o (Found l value) v w none says p = cc
+place_comes z k depth x o Empty v w none says p = tt
+place_comes z k depth x o (LeafMismatch l at byte) v w none says p = tt
+place_comes z k depth x o (PrefixMismatch n header at) v w none says p = tt
+place_comes z k depth x o (NoChild n header) v w none says p = tt
+place_comes z k depth x o Overlaps v w none says p = cc
+place_comes z k depth x o Torn v w none says p = absurd (says p.vouched.0 p.vouched.1 p.vouched.2)
 
 -- ---- few steps
 
@@ -393,7 +390,7 @@ deed_there j m r t is = ap (λ (o : Option Position). settled_by j r.row (value_
 -- a check that was made of the place that was found
 module _ (z : Sizes) (u : View) (j : Job) (t : Position) (r : Room) (v w : View) (short : length r.row.key.items ≤ 64) (p : WasPlaced z u j t r v w) where
   there : StandsThere z r.row.key.items p.by r.read_set p.finding.early v t
-  there = stands_there z r.row.key.items (settled_of j r.row) p.by r.read_set p.finding.early v p.finding.fits p.finding.exact t p.there
+  there = stands_there z r.row.key.items (settled_of j r.row) p.by r.read_set p.finding.early v p.finding.fits t p.there
 
   abbrev told : Option Deed
   told = told_as (settles j t.verdict) (deed_by j p.by r)
@@ -418,7 +415,7 @@ module _ (z : Sizes) (u : View) (j : Job) (t : Position) (r : Room) (v w : View)
   placed_comes none = record {
     stood = placed_stood;
     checked = placed_checked;
-    comes = place_comes z r.row.key.items t.depth t.stamp told t.verdict v w there.exact none there.standing.says p.checked;
+    comes = place_comes z r.row.key.items t.depth t.stamp told t.verdict v w none there.standing.says p.checked;
   }
 
   -- how an insert ends at a place where no leaf may come
@@ -437,7 +434,6 @@ module _ (z : Sizes) (u : View) (j : Job) (t : Position) (r : Room) (v w : View)
   placed_ends job (PrefixMismatch b header i) is e at = cc
   placed_ends job (NoChild b header) is e at = cc
   placed_ends job Torn is e at = cc
-  placed_ends job Absent is e at = cc
 
 -- where no leaf may come but for an overlap, the check settles the answer of an insert; nothing else does
 pub insert_settles_not : (found : Verdict) → entered_by found ≡ None → settles Insert found ≡ false
@@ -448,7 +444,6 @@ insert_settles_not (PrefixMismatch b header i) none = refl
 insert_settles_not (NoChild b header) none = refl
 insert_settles_not Overlaps none = cc
 insert_settles_not Torn none = refl
-insert_settles_not Absent none = refl
 
 pub remove_settles_other : (found : Verdict) → ((l value : ℕ) → found ≡ Found l value → ⊥) → settles Remove found ≡ true
 remove_settles_other (Found l value) other = absurd (other l value refl)
@@ -458,7 +453,6 @@ remove_settles_other (PrefixMismatch b header i) other = refl
 remove_settles_other (NoChild b header) other = refl
 remove_settles_other Overlaps other = refl
 remove_settles_other Torn other = refl
-remove_settles_other Absent other = refl
 
 -- ---- each step may be made
 
@@ -507,7 +501,6 @@ module _ (z : Sizes) (u : View) (j : Job) (m : Finding) (r : Room) (v : View) (f
     settling Insert (NoChild n header) at is = cc
     settling Insert Overlaps at is = cc
     settling Insert Torn at is = cc
-    settling Insert Absent at is = cc
     settling Remove (Found l value) at is = cc
     settling Remove Empty at is = record { stamp = s.standing.stamp.stamp; tells = remove_settles z v t.stamp k (shown None (ap value_of at)) }
     settling Remove (LeafMismatch l i byte) at is = record { stamp = s.standing.stamp.stamp; tells = remove_settles z v t.stamp k (shown None (ap value_of at)) }
@@ -515,7 +508,6 @@ module _ (z : Sizes) (u : View) (j : Job) (m : Finding) (r : Room) (v : View) (f
     settling Remove (NoChild n header) at is = record { stamp = s.standing.stamp.stamp; tells = remove_settles z v t.stamp k (shown None (ap value_of at)) }
     settling Remove Overlaps at is = record { stamp = s.standing.stamp.stamp; tells = remove_settles z v t.stamp k (shown None (ap value_of at)) }
     settling Remove Torn at is = record { stamp = s.standing.stamp.stamp; tells = remove_settles z v t.stamp k (shown None (ap value_of at)) }
-    settling Remove Absent at is = record { stamp = s.standing.stamp.stamp; tells = remove_settles z v t.stamp k (shown None (ap value_of at)) }
 
     check_allowed : (b : Bool) → settles j t.verdict ≡ b → MayAsk z (settled_by j r.row (unwrap_or (value_of t.verdict) 0)) v (check_as b t.stamp)
     check_allowed true is = (s.standing.stamp.inside, settling j t.verdict refl is)
@@ -523,7 +515,7 @@ module _ (z : Sizes) (u : View) (j : Job) (m : Finding) (r : Room) (v : View) (f
 
   place_allowed : (o : Option Position) (a : Action) → position_at m ≡ o → asks_place j o (asks m.descent.stage) ≡ Some a → MayAsk z (deed_by j m r) v a
   place_allowed (Some t) a at is =
-      let s = stands_there z k (settled_of j r.row) m r.read_set f.early v f.fits f.exact t at in
+      let s = stands_there z k (settled_of j r.row) m r.read_set f.early v f.fits t at in
       let may : MayAsk z (deed_by j m r) v (check_of j t) = subst (λ (d : Deed). MayAsk z d v (check_of j t)) (sym (deed_there j m r t at)) (check_allowed t s (settles j t.verdict) refl) in
       subst (MayAsk z (deed_by j m r) v) (same_Some {A = Action} (check_of j t) a is) may
   place_allowed None a at is =

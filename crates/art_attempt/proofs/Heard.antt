@@ -66,7 +66,6 @@ module _ (z : Sizes) (u : View) (j : Job) (m : FindingOf) (r : Room) (v : View) 
         has = f.has;
         fits = on.fits (settled_of j r.row) f.early f.fits;
         going = on.going f.going;
-        exact = on.exact f.exact;
       }
 
 module _ (z : Sizes) (u : View) (m : Attempt) (at : FindingOf) (r : Room) (v : View) (n : FindingOf) (read_set : ReadSet) (w : View) (stage : m.stage ≡ Finding at) (fits : Fits z u m r v) where

@@ -14,7 +14,7 @@ use Rattle.art_attempt.specs.declared.attempts.Room.{Room}
 use Rattle.art_find.specs.Descents as descents
 use Rattle.art_find.specs.Verdicts.{HasOverlap, Says}
 use Rattle.art_find.specs.declared.descents.Verdict.{Verdict}
-use Rattle.art_find.specs.declared.descents.Verdict.TheVariants.{Found, Empty, LeafMismatch, PrefixMismatch, NoChild, Overlaps, Torn, Absent}
+use Rattle.art_find.specs.declared.descents.Verdict.TheVariants.{Found, Empty, LeafMismatch, PrefixMismatch, NoChild, Overlaps, Torn}
 use Rattle.art_machine.specs.Acting.{PassesAmong, passed}
 use Rattle.art_machine.specs.declared.actions.Action.{Action}
 use Rattle.art_machine.specs.declared.actions.Action.TheVariants.{Check}
@@ -40,7 +40,6 @@ overlap_there (PrefixMismatch n header at) is = cc
 overlap_there (NoChild n header) is = cc
 overlap_there Overlaps is = refl
 overlap_there Torn is = cc
-overlap_there Absent is = cc
 
 -- nor where a change was made or given up
 pub made_apart : (j : Job) (value : ℕ) (made : Result ⊤ UpgradeFault) → ended_so j value made ≡ overlaps → ⊥
@@ -56,7 +55,7 @@ overlap_checked z u v m r asked answer fits at o =
     let k = r.row.key.items in
     let t = o.position in
     let f = is_finding z u m r v o.by o.finding fits in
-    let there = stands_there z k (settled_of m.job r.row) o.by r.read_set f.early v f.fits f.exact t o.there in
+    let there = stands_there z k (settled_of m.job r.row) o.by r.read_set f.early v f.fits t o.there in
     let says : Says z k t.depth t.stamp Overlaps v = subst (λ (found : Verdict). Says z k t.depth t.stamp found v) o.overlaps there.standing.says in
     let so : settles m.job t.verdict ≡ false = ap (λ (j : Job). settles j t.verdict) o.job ∙ ap (settles Insert) o.overlaps in
     let checks : asks m r ≡ Some (Check t.stamp) =

@@ -224,7 +224,6 @@ pub record IsFinding (z : Sizes) (u : View) (j : Job) (f : Finding) (r : Room) (
   pub has : HasHand z early r
   pub fits : FindingFits z r.row.key.items (settled_of j r.row) f r.read_set early v
   pub going : descents.ended_at f.descent.stage ≡ None
-  pub exact : descents.IsExact f.descent.stage
 
 -- from the view v to the view w the place of the key that was found was checked, which tells the answer or nothing
 abbrev pub told_as : Bool → Deed → Option Deed

@@ -16,7 +16,6 @@ on_still z k m read_set v = record {
   failures = refl;
   further = omega arith;
   going = λ e. e;
-  exact = λ e. e;
   fits = λ what u fits. fits;
 }
 
@@ -32,12 +31,11 @@ on_then z k m read_set u n kept v o last w one two =
       failures = two.failures ∙ one.failures;
       further = omega (arith, c, d);
       going = λ e. two.going (one.going e);
-      exact = λ e. two.exact (one.exact e);
       fits = λ what t fits. two.fits what t (one.fits what t fits);
     }
 
 module _ (z : Sizes) (k : List ℕ) (on : Bool) (m : Finding) (read_set : ReadSet) (v : View) (n : Finding) (kept : ReadSet) (w : View) (l : LookedOn z k on m read_set v n kept w) where
-  counted : Counted v w on
+  pub counted : Counted v w on
   counted = subst (Counted v w) (sym l.4) (answers_count z (get_done k None) m.descent.stage l.0 l.1 v w l.2.asked_it (l.2.row (get_done k None)))
 
   pub one_made : w.steps ≡ v.steps + 1
@@ -54,6 +52,5 @@ on_looked z k m read_set v n kept w l =
       failures = (counted z k true m read_set v n kept w l).failures;
       further = omega (arith, one, further);
       going = λ e. heard.going;
-      exact = λ e. heard.exact;
       fits = heard.fits;
     }

@@ -3,7 +3,7 @@ use Rattle.std.proofs.Common.{◌≡◌, ℕ, List, Option, Some, sym, ◌∙◌
 use Rattle.std.proofs.lemmas.Option.{same_Some}
 use Rattle.art_find.specs.Verdicts.{Says}
 use Rattle.art_find.specs.declared.descents.Verdict.{Verdict}
-use Rattle.art_find.specs.declared.descents.Verdict.TheVariants.{Found, Empty, LeafMismatch, PrefixMismatch, NoChild, Overlaps, Torn, Absent}
+use Rattle.art_find.specs.declared.descents.Verdict.TheVariants.{Found, Empty, LeafMismatch, PrefixMismatch, NoChild, Overlaps, Torn}
 use Rattle.art_find.specs.ReadSets.{above_of, node_of}
 use Rattle.art_find.specs.Findings.{IsPlaced, IsStanding, IsUnder}
 use Rattle.art_find.specs.Kept.{IsKept}
@@ -28,7 +28,6 @@ says_grows z k depth x (PrefixMismatch n header at) v w grows says = (says.0, sa
 says_grows z k depth x (NoChild n header) v w grows says = (says.0, says.1, shows_more z v w x _ grows.notes says.2)
 says_grows z k depth x Overlaps v w grows says = shows_more z v w x _ grows.notes says
 says_grows z k depth x Torn v w grows says = shows_more z v w x _ grows.notes says
-says_grows z k depth x Absent v w grows says = shows_more z v w x _ grows.notes says
 
 module _ (z : Sizes) (k : List ℕ) (v w : View) (above : Option Above) (read_set read_set' : ReadSet) (y : Stamp) (grows : Grows v w) where
   -- more of the cell is kept

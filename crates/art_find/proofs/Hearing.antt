@@ -1,18 +1,19 @@
 -- A finding that made a step and heard it has looked on.
-use Rattle.std.proofs.Common.{◌≡◌, ◌<◌, ℕ, Bool, true, false, List, Option, Some, None, refl, sym, subst}
-use Rattle.std.specs.Prelude.{IfSome, Err, ⊤}
+use Rattle.std.proofs.Common.{◌≡◌, ◌≢◌, ◌<◌, ℕ, Bool, true, false, List, Option, Some, None, refl, sym, ap, ◌∙◌, subst, arith}
+use Rattle.std.proofs.lemmas.Option.{same_Some}
+use Rattle.std.specs.Prelude.{IfSome, Ok, Err, ⊤}
 use Rattle.art_cell.specs.declared.cells.Cell.{Cell}
 use Rattle.art_cell.specs.declared.cells.Link.{Link}
 use Rattle.art_cell.specs.declared.cells.Link.TheVariants.{Leaf as leaf, Node as node}
 use Rattle.art_find.proofs.Allowed.{allowed}
-use Rattle.art_find.specs.Asking.{MayLook}
+use Rattle.art_find.specs.Asking.{MayLook, WantsCheck, WantsVersion, WantsWord}
 use Rattle.art_machine.specs.Acting.{Answers, goes_on, telling}
-use Rattle.art_find.proofs.Stages.{reads_on, still_reading}
-use Rattle.art_find.specs.Descents.{Fits, IsExact, IsReading, Stays, answer_at, asks, ended_at, most_steps, stage_begun, stage_below, stage_checked, stands_on}
+use Rattle.art_find.proofs.Stages.{reads_on, still_reading, wants_check, wants_version, wants_word}
+use Rattle.art_find.specs.Descents.{Fits, IsReading, Stays, answer_at, asks, ended_at, most_steps, stage_begun, stage_below, stage_checked, stands_on}
 use Rattle.art_machine.specs.declared.actions.Answer.{Answer}
-use Rattle.art_machine.specs.declared.actions.Answer.TheVariants.{Word}
+use Rattle.art_machine.specs.declared.actions.Answer.TheVariants.{Begun, Word, Checked, Upgraded, Done}
 use Rattle.art_machine.specs.declared.actions.Action.{Action}
-use Rattle.art_machine.specs.declared.actions.Action.TheVariants.{Begin, ReadLeaf, Check}
+use Rattle.art_machine.specs.declared.actions.Action.TheVariants.{Begin, ReadLeaf, Check, Settle}
 use Rattle.art_find.specs.declared.descents.Descent.{Descent}
 use Rattle.art_find.specs.declared.descents.Stage.{Stage}
 use Rattle.art_find.specs.declared.descents.Stage.TheVariants.{Start, Anchor, Child, Below, Both, Header, Prefix, Keys, Slot, Value, Length, Bytes, Decided, Ended}
@@ -42,43 +43,106 @@ may_look z k what m read_set u v a is fits =
     let so : Cells → Type 0 = λ s. HasValue s k (answer_at m.descent.stage) in
     looked z v so a (subst (λ (o : Option Action). IfSome o (MayLook z so v)) is (allowed z k what m.descent.depth m.descent.stage u v fits.descent))
 
--- ---- it has not ended after a version word was clear, or unchanged
+-- ---- it has not ended after an answer that settles nothing
 
-pub begun_going : (stage : Stage) (y : Stamp) (c : Cell) → asks stage ≡ Some (Begin c) → ended_at (stage_begun y stage) ≡ None
-begun_going Start y c is = refl
-begun_going (Below x n) y c is = refl
-begun_going (Anchor x) y c is = cc
-begun_going (Child x d) y c is = cc
-begun_going (Both x a n) y c is = cc
-begun_going (Header x n) y c is = cc
-begun_going (Prefix seen i r) y c is = cc
-begun_going (Keys seen i) y c is = cc
-begun_going (Slot seen place) y c is = cc
-begun_going (Value x l) y c is = cc
-begun_going (Length x l value) y c is = cc
-begun_going (Bytes seen i r) y c is = cc
-begun_going (Decided x found) y c is = cc
-begun_going (Ended o) y c is = cc
+pub begun_going : (stage : Stage) (y : Stamp) → WantsVersion (asks stage) → ended_at (stage_begun y stage) ≡ None
+begun_going Start y wants = refl
+begun_going (Below x n) y wants = refl
+begun_going (Anchor x) y wants = absurd wants
+begun_going (Child x d) y wants = absurd wants
+begun_going (Both x a n) y wants = absurd wants
+begun_going (Header x n) y wants = absurd wants
+begun_going (Prefix seen i r) y wants = absurd wants
+begun_going (Keys seen i) y wants = absurd wants
+begun_going (Slot seen place) y wants = absurd wants
+begun_going (Value x l) y wants = absurd wants
+begun_going (Length x l value) y wants = absurd wants
+begun_going (Bytes seen i r) y wants = absurd wants
+begun_going (Decided x found) y wants = absurd wants
+begun_going (Ended o) y wants = absurd wants
 
 below_going : (x : Stamp) (d : Link) → ended_at (stage_below x d) ≡ None
 below_going x (leaf l) = refl
 below_going x (node n) = refl
 
-pub checked_going : (stage : Stage) (x : Stamp) → asks stage ≡ Some (Check x) → ended_at (stage_checked stage) ≡ None
-checked_going (Child y d) x is = below_going y d
-checked_going (Both y a n) x is = refl
-checked_going Start x is = cc
-checked_going (Anchor y) x is = cc
-checked_going (Below y n) x is = cc
-checked_going (Header y n) x is = cc
-checked_going (Prefix seen i r) x is = cc
-checked_going (Keys seen i) x is = cc
-checked_going (Slot seen place) x is = cc
-checked_going (Value y l) x is = cc
-checked_going (Length y l value) x is = cc
-checked_going (Bytes seen i r) x is = cc
-checked_going (Decided y found) x is = cc
-checked_going (Ended o) x is = cc
+pub checked_going : (stage : Stage) → WantsCheck (asks stage) → ((x : Stamp) → asks stage ≢ Some (Settle x)) → ended_at (stage_checked stage) ≡ None
+checked_going (Child y d) wants other = below_going y d
+checked_going (Both y a n) wants other = refl
+checked_going Start wants other = absurd wants
+checked_going (Anchor y) wants other = absurd wants
+checked_going (Below y n) wants other = absurd wants
+checked_going (Header y n) wants other = absurd wants
+checked_going (Prefix seen i r) wants other = absurd wants
+checked_going (Keys seen i) wants other = absurd wants
+checked_going (Slot seen place) wants other = absurd wants
+checked_going (Value y l) wants other = absurd wants
+checked_going (Length y l value) wants other = absurd wants
+checked_going (Bytes seen i r) wants other = absurd wants
+checked_going (Decided y found) wants other = absurd (other y refl)
+checked_going (Ended o) wants other = absurd wants
+
+-- a word is read where it stands on a cell
+word_stands : (stage : Stage) → WantsWord (asks stage) → stands_on stage ≢ None
+word_stands Start wants = absurd wants
+word_stands (Anchor x) wants = λ e. cc
+word_stands (Child x d) wants = absurd wants
+word_stands (Below x n) wants = absurd wants
+word_stands (Both x y n) wants = absurd wants
+word_stands (Header x n) wants = λ e. cc
+word_stands (Prefix seen i r) wants = λ e. cc
+word_stands (Keys seen i) wants = λ e. cc
+word_stands (Slot seen place) wants = λ e. cc
+word_stands (Value x l) wants = λ e. cc
+word_stands (Length x l value) wants = λ e. cc
+word_stands (Bytes seen i r) wants = λ e. cc
+word_stands (Decided x found) wants = absurd wants
+word_stands (Ended o) wants = absurd wants
+
+-- and where it stands on one, or made no step yet, it has not ended
+standing_going : (stage : Stage) → stands_on stage ≢ None → ended_at stage ≡ None
+standing_going Start on = refl
+standing_going (Anchor x) on = refl
+standing_going (Child x d) on = refl
+standing_going (Below x n) on = refl
+standing_going (Both x y n) on = refl
+standing_going (Header x n) on = refl
+standing_going (Prefix seen i r) on = refl
+standing_going (Keys seen i) on = refl
+standing_going (Slot seen place) on = refl
+standing_going (Value x l) on = refl
+standing_going (Length x l value) on = refl
+standing_going (Bytes seen i r) on = refl
+standing_going (Decided x found) on = refl
+standing_going (Ended o) on = absurd (on refl)
+
+fresh_going : (depth : ℕ) (stage : Stage) → most_steps depth stage ≡ 0 → ended_at stage ≡ None
+fresh_going depth Start none = refl
+fresh_going depth (Anchor x) none = refl
+fresh_going depth (Child x d) none = refl
+fresh_going depth (Below x n) none = refl
+fresh_going depth (Both x y n) none = refl
+fresh_going depth (Header x n) none = refl
+fresh_going depth (Prefix seen i r) none = refl
+fresh_going depth (Keys seen i) none = refl
+fresh_going depth (Slot seen place) none = refl
+fresh_going depth (Value x l) none = refl
+fresh_going depth (Length x l value) none = refl
+fresh_going depth (Bytes seen i r) none = refl
+fresh_going depth (Decided x found) none = refl
+fresh_going depth (Ended o) none = absurd (omega (arith, none))
+
+pub told_going : (z : Sizes) (d : Deed) (m n : Descent) (a : Action) (r : Answer) (v w : View) → asks m.stage ≡ Some a → ((x : Stamp) → a ≢ Settle x) → Answers z (telling d) a r v w
+    → Stays r m n → (goes_on r ≡ false → most_steps n.depth n.stage ≡ 0) → ended_at n.stage ≡ None
+told_going z d m n a (Word word) v w is other row stays anew =
+    standing_going n.stage (λ e. word_stands m.stage (subst WantsWord (sym is) (wants_word z d a word v w row)) (sym stays ∙ e))
+told_going z d m n a (Begun (Ok y)) v w is other row stays anew =
+    ap (λ (s : Descent). ended_at s.stage) stays ∙ begun_going m.stage y (subst WantsVersion (sym is) (wants_version z d a (Ok y) v w row))
+told_going z d m n a (Begun (Err e)) v w is other row stays anew = fresh_going n.depth n.stage (anew refl)
+told_going z d m n a (Checked (Ok t)) v w is other row stays anew =
+    ap (λ (s : Descent). ended_at s.stage) stays ∙ checked_going m.stage (subst WantsCheck (sym is) (wants_check z d a (Ok t) v w row)) (λ x e. other x (same_Some {A = Action} a (Settle x) (sym is ∙ e)))
+told_going z d m n a (Checked (Err e)) v w is other row stays anew = fresh_going n.depth n.stage (anew refl)
+told_going z d m n a (Upgraded r) v w is other row stays anew = absurd stays
+told_going z d m n a Done v w is other row stays anew = absurd stays
 
 -- ---- a version word was locked, obsolete or changed
 
@@ -114,7 +178,6 @@ pub record CameTo (z : Sizes) (k : List ℕ) (asked : Action) (answer : Answer) 
   pub anew : goes_on answer ≡ false → most_steps n.depth n.stage ≡ 0
   pub stays : Stays answer m n
   pub going : ended_at n.stage ≡ None
-  pub exact : IsExact n.stage
   pub fits : (what : Option ℕ → Deed) (u : View) → Fits z k what m u v → Fits z k what n u w
 
 module _ (z : Sizes) (k : List ℕ) (on : Bool) (m m' : Finding) (read_set read_set' : ReadSet) (v w : View) (asked : Action) (answer : Answer)
@@ -134,7 +197,6 @@ module _ (z : Sizes) (k : List ℕ) (on : Bool) (m m' : Finding) (read_set read_
     anew = λ off. subst (λ (d : Descent). most_steps d.depth d.stage ≡ 0) (sym same) (came.anew off);
     stays = subst (Stays answer m.descent) (sym same) came.stays;
     going = subst (λ (d : Descent). ended_at d.stage ≡ None) (sym same) came.going;
-    exact = subst (λ (d : Descent). IsExact d.stage) (sym same) came.exact;
     fits = λ what u before. record {
       descent = subst (λ (d : Descent). Fits z k what d u w) (sym same) (came.fits what u before.descent);
       place = placed n same came keeps what u before;
@@ -146,15 +208,14 @@ module _ (z : Sizes) (k : List ℕ) (on : Bool) (m m' : Finding) (read_set read_
 
 -- a word was heard
 pub word_came : (z : Sizes) (k : List ℕ) (v w : View) (m n : Descent) (asked : Action) (word : ℕ) → asks m.stage ≡ Some asked → ((d : Deed) → Answers z (telling d) asked (Word word) v w)
-    → most_steps m.depth m.stage < most_steps n.depth n.stage → stands_on n.stage ≡ stands_on m.stage → ended_at n.stage ≡ None → IsExact n.stage
+    → most_steps m.depth m.stage < most_steps n.depth n.stage → stands_on n.stage ≡ stands_on m.stage → ended_at n.stage ≡ None
     → ((y : Sizes) (what : Option ℕ → Deed) (u before after : View) (a : Action) → Fits y k what m u before → asks m.stage ≡ Some a → Answers y (telling (what (answer_at m.stage))) a (Word word) before after → Fits y k what n u after)
     → CameTo z k asked (Word word) m n v w
-word_came z k v w m n asked word is row further stays going exact fits = record {
+word_came z k v w m n asked word is row further stays going fits = record {
   further = λ on. further;
   anew = λ off. absurd (cc);
   stays = stays;
   going = going;
-  exact = exact;
   fits = λ what u before. fits z what u v w asked before is (row (what (answer_at m.stage)));
 }
 

@@ -4,7 +4,7 @@ use Rattle.art_cell.specs.declared.cells.Link.{Link}
 use Rattle.art_cell.specs.declared.cells.Link.TheVariants.{Leaf as leaf, Node as node}
 use Rattle.art_find.proofs.Descending.{on_looked, on_still, on_then, one_made}
 use Rattle.art_find.proofs.Hearing.{CameTo, heard, looked_on}
-use Rattle.art_find.specs.Descents.{Fits, IsExact, Stays, asks, ended_at, most_steps, stage_below, staged, stands_on}
+use Rattle.art_find.specs.Descents.{Fits, Stays, asks, ended_at, most_steps, stage_below, staged, stands_on}
 use Rattle.art_find.specs.Findings.{Enters, FindingFits, Keeps, LookedOn}
 use Rattle.art_find.specs.Nodes.{Arrives, Came, CameOff, FitsAt, Moment, moment}
 use Rattle.art_find.specs.declared.descents.NodeSeen.{NodeSeen}
@@ -24,20 +24,11 @@ use Rattle.art_step.specs.declared.views.View.{View}
 
 -- ---- stages
 
-pub staged_exact : (r : Sought) (seen : NodeSeen) → IsExact (staged r seen)
-staged_exact (sought.Keys i) seen = tt
-staged_exact (sought.Child p) seen = tt
-staged_exact sought.Nothing seen = λ e. cc
-
 -- the search is one on the node's cell
 pub staged_stands : (r : Sought) (seen : NodeSeen) → stands_on (staged r seen) ≡ Some seen.stamp
 staged_stands (sought.Keys i) seen = refl
 staged_stands (sought.Child p) seen = refl
 staged_stands sought.Nothing seen = refl
-
-pub below_exact : (x : Stamp) (d : Link) → IsExact (stage_below x d)
-below_exact x (leaf l) = tt
-below_exact x (node n) = tt
 
 -- no cell is entered at the check of the cell that names it
 pub below_keeps : (x : Stamp) (d : Link) (depth : ℕ) (above : Option Above) (read_set : ReadSet) → Enters (Some (Check x)) (asks (stage_below x d)) depth above read_set above read_set
@@ -93,16 +84,15 @@ module _ (k : List ℕ) (n : Finding) (b : Moment) (o : Finding) (c : Moment) (s
 -- a step that went on to another stage was made and heard
 pub heard_on : (z : Sizes) (k : List ℕ) (v w : View) (m n : Finding) (read_set read_set' : ReadSet) (asked : Action) (answer : Answer) → asks m.descent.stage ≡ Some asked
     → ((d : Deed) → Answers z (telling d) asked answer v w) → goes_on answer ≡ true → most_steps m.descent.depth m.descent.stage < most_steps n.descent.depth n.descent.stage
-    → Stays answer m.descent n.descent → ended_at n.descent.stage ≡ None → IsExact n.descent.stage
+    → Stays answer m.descent n.descent → ended_at n.descent.stage ≡ None
     → ((what : Option ℕ → Deed) (u : View) → Fits z k what m.descent u v → Fits z k what n.descent u w)
     → Keeps answer (asks m.descent.stage) (asks n.descent.stage) n.descent.depth m.above read_set n.above read_set' → LookedOn z k true m read_set v n read_set' w
-heard_on z k v w m n read_set read_set' asked answer is row goes further stays going exact fits keeps =
+heard_on z k v w m n read_set read_set' asked answer is row goes further stays going fits keeps =
     let came : CameTo z k asked answer m.descent n.descent v w = record {
       further = λ on. further;
       anew = λ off. let both : true ≡ false = sym goes ∙ off in absurd (cc);
       stays = stays;
       going = going;
-      exact = exact;
       fits = fits;
     } in
     looked_on z k true m n read_set read_set' v w asked answer is row (sym goes)

@@ -32,7 +32,6 @@ use Rattle.art_find.proofs.Keeping.{anchor_path, path_grows, path_passed, read_g
 use Rattle.art_find.proofs.Judged.{KeyRead, PrefixRead, judged_above, judged_begins, judged_below, judged_empty, judged_ended, judged_found, judged_leaf_above, judged_leaf_below, judged_leaf_ended}
 use Rattle.art_find.proofs.LeafKeys.{leaf_not_torn}
 use Rattle.art_find.proofs.NodeWords.{body_of, child_there, names_none, no_child}
-use Rattle.art_find.proofs.VerdictValues.{says_value}
 use Rattle.art_node.specs.Searches.{SoughtTells}
 use Rattle.art_node.specs.declared.searches.Sought.{Sought}
 use Rattle.art_node.specs.declared.searches.Sought.TheVariants as sought
@@ -219,10 +218,6 @@ module _ (z : Sizes) (k : List ℕ) (what : Option ℕ → Deed) (depth : ℕ) (
 
       pub free_slot_fits : link_of word ≡ None → StageFits z k what depth (Decided y (verdict.NoChild n header)) u w
       free_slot_fits none = node_decided (verdict.NoChild n header) (omega arith) (free_slot none)
-
-      -- the same, where it is not said which place is free
-      pub empty_slot_fits : link_of word ≡ None → StageFits z k what depth (Decided y verdict.Absent) u w
-      empty_slot_fits none = node_decided verdict.Absent (omega arith) (says_value z k depth y (verdict.NoChild n header) w (free_slot none))
 
   module _ (seen : NodeSeen) (on : IsOn z u w seen.stamp seen.node) where
     abbrev y : Stamp

@@ -4,7 +4,7 @@ use Rattle.std.proofs.Math.Seq.{take-suc}
 use Rattle.art_cell.specs.declared.cells.Cell.{Cell}
 use Rattle.art_find.specs.Verdicts.{HasOverlap, IsFound, IsLeafMismatch, PartsAt, Says, value_of}
 use Rattle.art_find.specs.declared.descents.Verdict.{Verdict}
-use Rattle.art_find.specs.declared.descents.Verdict.TheVariants.{Found, Empty, LeafMismatch, PrefixMismatch, NoChild, Overlaps, Torn, Absent}
+use Rattle.art_find.specs.declared.descents.Verdict.TheVariants.{Found, Empty, LeafMismatch, PrefixMismatch, NoChild, Overlaps, Torn}
 use Rattle.art_find.proofs.NodeWords.{begins_take, differs, free_byte}
 use Rattle.art_step.specs.Knowledge.{IsShape}
 use Rattle.art_step.specs.Shows.{HasValue, Shows}
@@ -54,4 +54,3 @@ says_value z k depth x (PrefixMismatch n header at) v says =
 says_value z k depth x (NoChild n header) v says = shows_then z v x _ _ (λ s shape is. free_byte z s n k depth header shape is.past says.1 is.free) says.2
 says_value z k depth x Overlaps v says = shows_then z v x _ _ (λ s shape is. overlap_value z s k shape is) says
 says_value z k depth x Torn v says = λ s shape holds. absurd (says s shape holds)
-says_value z k depth x Absent v says = says

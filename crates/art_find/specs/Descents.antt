@@ -70,11 +70,6 @@ abbrev pub decided_at : Stage → Option (Stamp × Verdict)
 decided_at (Decided x found) = Some (x, found)
 decided_at stage = None
 
--- where it has come to a verdict, that says more than that the key has no value
-abbrev pub IsExact : Stage → Type 0
-IsExact (Decided x found) = found ≢ verdict.Absent
-IsExact stage = ⊤
-
 -- ---- where it goes
 
 -- the stamp on whose cell it stands

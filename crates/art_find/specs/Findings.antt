@@ -6,7 +6,7 @@ use Rattle.art_cell.specs.declared.cells.Cell.TheVariants as cell
 use Rattle.art_cell.specs.declared.cells.Link.TheVariants.{Node as node}
 use Rattle.art_cell.specs.declared.cells.Node.{Node}
 use Rattle.art_machine.specs.Acting.{Answers, HasPath, goes_on, telling}
-use Rattle.art_find.specs.Descents.{Fits, IsExact, Stays, asks, decided_at, ended_at, most_steps, stands_on}
+use Rattle.art_find.specs.Descents.{Fits, Stays, asks, decided_at, ended_at, most_steps, stands_on}
 use Rattle.art_find.specs.Verdicts.{Says}
 use Rattle.art_machine.specs.declared.actions.Answer.{Answer}
 use Rattle.art_machine.specs.declared.actions.Answer.TheVariants.{Begun, Checked}
@@ -137,7 +137,6 @@ pub record HasHeard (z : Sizes) (k : List ℕ) (answer : Answer) (m : Finding) (
   pub anew : goes_on answer ≡ false → most_steps m'.descent.depth m'.descent.stage ≡ 0
   pub stays : Stays answer m.descent m'.descent
   pub going : ended_at m'.descent.stage ≡ None
-  pub exact : IsExact m'.descent.stage
   pub fits : (what : Option ℕ → Deed) (u : View) → FindingFits z k what m read_set u v → FindingFits z k what m' read_set' u w
 
 -- a step was made and heard, after which it goes on or restarts
@@ -150,7 +149,6 @@ pub record WentOn (z : Sizes) (k : List ℕ) (m : Finding) (read_set : ReadSet) 
   pub failures : w.failures ≡ v.failures
   pub further : w.steps + most_steps m.descent.depth m.descent.stage ≤ v.steps + most_steps m'.descent.depth m'.descent.stage
   pub going : ended_at m.descent.stage ≡ None → ended_at m'.descent.stage ≡ None
-  pub exact : IsExact m.descent.stage → IsExact m'.descent.stage
   pub fits : (what : Option ℕ → Deed) (u : View) → FindingFits z k what m read_set u v → FindingFits z k what m' read_set' u w
 
 -- and then one failed, after which it restarts

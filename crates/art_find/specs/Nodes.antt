@@ -2,14 +2,15 @@
 use Rattle.std.specs.Prelude.{◌≡◌, ◌+◌, ℕ, Bool, true, false, List, Option, Result, Ok, Err}
 use Rattle.art_find.specs.Descents.{stage_below, staged}
 use Rattle.art_find.specs.Findings.{CameBack, FindingFits, WentOn}
+use Rattle.art_find.specs.declared.descents.Descent.{Descent}
 use Rattle.art_find.specs.declared.descents.Stage.{Stage}
 use Rattle.art_find.specs.declared.descents.Stage.TheVariants as stage
 use Rattle.art_find.specs.declared.findings.Above.{Above}
 use Rattle.art_find.specs.declared.findings.Finding.{Finding}
 use Rattle.art_find.specs.declared.read_sets.ReadSet.{ReadSet}
-use Rattle.art_find.specs.declared.straight.Below.{Below}
-use Rattle.art_find.specs.declared.straight.Child.{Child}
-use Rattle.art_find.specs.declared.straight.NodeSearch.{NodeSearch}
+use Rattle.art_find.specs.declared.nodes.Below.{Below}
+use Rattle.art_find.specs.declared.nodes.Child.{Child}
+use Rattle.art_find.specs.declared.nodes.NodeSearch.{NodeSearch}
 use Rattle.art_step.specs.declared.deeds.Deed.{Deed}
 use Rattle.art_step.specs.declared.views.Sizes.{Sizes}
 use Rattle.art_step.specs.declared.views.View.{View}
@@ -66,5 +67,8 @@ abbrev pub finding_below : Option Above → Below → Finding
 finding_below above b = finding_at above b.depth (stage_below b.above b.link)
 
 -- a node is searched
+abbrev pub descent_search : NodeSearch → Descent
+descent_search f = record { depth = f.depth; stage = staged f.sought f.seen }
+
 abbrev pub finding_search : Option Above → NodeSearch → Finding
 finding_search above f = finding_at above f.depth (staged f.sought f.seen)

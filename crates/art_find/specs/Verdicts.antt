@@ -7,9 +7,9 @@ use Rattle.art_cell.specs.declared.cells.Node.{Node}
 use Rattle.art_cell.specs.Words.{packed}
 use Rattle.art_find.specs.Ways.{HasHeader, IsPastPrefix, count_in}
 use Rattle.art_find.specs.declared.descents.Verdict.{Verdict}
-use Rattle.art_find.specs.declared.descents.Verdict.TheVariants.{Found, Empty, LeafMismatch, PrefixMismatch, NoChild, Overlaps, Torn, Absent}
+use Rattle.art_find.specs.declared.descents.Verdict.TheVariants.{Found, Empty, LeafMismatch, PrefixMismatch, NoChild, Overlaps, Torn}
 use Rattle.art_path.specs.Compared.{AreSame}
-use Rattle.art_step.specs.Shows.{HasChild, HasValue, Shows}
+use Rattle.art_step.specs.Shows.{HasChild, Shows}
 use Rattle.art_step.specs.declared.views.Sizes.{Sizes}
 use Rattle.art_step.specs.declared.views.Stamp.{Stamp}
 use Rattle.art_step.specs.declared.views.View.{View}
@@ -25,7 +25,6 @@ value_of (PrefixMismatch n header at) = None
 value_of (NoChild n header) = None
 value_of Overlaps = None
 value_of Torn = None
-value_of Absent = None
 
 -- ---- in a tree
 
@@ -77,4 +76,3 @@ Says z k depth x (PrefixMismatch n header at) v =
 Says z k depth x (NoChild n header) v = (x.cell ≡ cell.Node n) × (depth < length k) × Shows z v x (λ s. IsFree s n k depth header)
 Says z k depth x Overlaps v = Shows z v x (λ s. HasOverlap s k)
 Says z k depth x Torn v = Shows z v x (λ s. ⊥)
-Says z k depth x Absent v = Shows z v x (λ s. HasValue s k None)

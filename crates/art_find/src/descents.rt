@@ -108,7 +108,7 @@ pub struct Descent {
 impl Descent {
     ghost use Rattle.art_find.specs.Asking.{MayLook, WantsCheck, WantsVersion};
     ghost use Rattle.art_machine.specs.Acting.{Answers, goes_on, telling};
-    ghost use Rattle.art_find.specs.Descents.{Fits, IsExact, IsReading, Stays};
+    ghost use Rattle.art_find.specs.Descents.{Fits, IsReading, Stays};
     ghost use Rattle.art_find.specs.Descents.{answer_at, asks, decided_at, ended_at, most_steps, stage_begun, stage_checked};
     ghost use Rattle.art_machine.specs.declared.actions.Answer.{Answer as AnswerTold};
     ghost use Rattle.art_machine.specs.declared.actions.Answer.TheVariants as told;
@@ -124,7 +124,6 @@ impl Descent {
     pub fn new() -> Descent
         ensures steps { most_steps result.depth result.stage ≡ 0 }
         ensures going { ended_at result.stage ≡ None }
-        ensures exact { IsExact result.stage }
         ensures fits { (z : Sizes) (k : List ℕ) (what : Option ℕ → Deed) (u v : View) → IsReading u v → Fits z k what result u v }
     {
         Descent {
@@ -181,22 +180,6 @@ impl Descent {
         }
     }
 
-    /// How many bytes of the key lead to where it stands.
-    #[inline(always)]
-    pub fn depth(&self) -> usize
-        ensures { result ≡ self.now.depth }
-    {
-        self.depth
-    }
-
-    /// Where it stands.
-    #[inline(always)]
-    pub fn stage(&self) -> &Stage
-        ensures { result.now ≡ self.now.stage }
-    {
-        &self.stage
-    }
-
     /// The key's value, or that it has none: at the step that settles it, and once that is settled.
     #[inline(always)]
     pub fn answer(&self) -> Option<u64>
@@ -242,16 +225,15 @@ impl Descent {
         ensures steps { result ≡ true → most_steps self.old.depth self.old.stage < most_steps self.new.depth self.new.stage }
         ensures anew { result ≡ false → most_steps self.new.depth self.new.stage ≡ 0 }
         ensures stays { Stays answer self.old self.new }
-        ensures exact { IsExact self.new.stage }
         ensures fits { (z : Sizes) (what : Option ℕ → Deed) (u v w : View) (asked : ActionOf) →
             Fits z key.now what self.old u v → asks self.old.stage ≡ Some asked →
             Answers z (telling (what (answer_at self.old.stage))) asked answer v w → Fits z key.now what self.new u w }
     {
         match answer {
-            Answer::Begun { result: Ok(stamp) } => self.began(stamp),
-            Answer::Word { found } => self.read(key, found),
+            Answer::Begun { result: Ok(stamp) } => self.began_at(self.stage, stamp),
+            Answer::Word { found } => self.read_at(self.stage, key, found),
             Answer::Checked { result } => match result {
-                Ok(()) => self.checked(),
+                Ok(()) => self.checked_at(self.stage),
                 Err(_) => {
                     self.failed();
                     return false;
@@ -266,20 +248,6 @@ impl Descent {
         true
     }
 
-    /// A version word was clear, and gave this stamp.
-    #[inline(always)]
-    pub fn began(&mut self, stamp: Stamp)
-        requires { WantsVersion (asks self.old.stage) }
-        ensures steps { most_steps self.old.depth self.old.stage < most_steps self.new.depth self.new.stage }
-        ensures stays { self.new ≡ record self.old { stage = stage_begun stamp self.old.stage } }
-        ensures exact { IsExact self.new.stage }
-        ensures fits { (z : Sizes) (k : List ℕ) (what : Option ℕ → Deed) (u v w : View) (asked : ActionOf) →
-            Fits z k what self.old u v → asks self.old.stage ≡ Some asked →
-            Answers z (telling (what (answer_at self.old.stage))) asked (told.Begun (Ok stamp)) v w → Fits z k what self.new u w }
-    {
-        self.began_at(self.stage, stamp);
-    }
-
     /// A version word was clear, and gave this stamp, where the descent stood at this stage.
     #[inline(always)]
     pub fn began_at(&mut self, stage: Stage, stamp: Stamp)
@@ -287,7 +255,6 @@ impl Descent {
         requires wants { WantsVersion (asks stage) }
         ensures steps { most_steps self.old.depth self.old.stage < most_steps self.new.depth self.new.stage }
         ensures stays { self.new ≡ record self.old { stage = stage_begun stamp self.old.stage } }
-        ensures exact { IsExact self.new.stage }
         ensures fits { (z : Sizes) (k : List ℕ) (what : Option ℕ → Deed) (u v w : View) (asked : ActionOf) →
             Fits z k what self.old u v → asks self.old.stage ≡ Some asked →
             Answers z (telling (what (answer_at self.old.stage))) asked (told.Begun (Ok stamp)) v w → Fits z k what self.new u w }
@@ -299,20 +266,6 @@ impl Descent {
         };
     }
 
-    /// A version word was unchanged.
-    #[inline(always)]
-    pub fn checked(&mut self)
-        requires { WantsCheck (asks self.old.stage) }
-        ensures steps { most_steps self.old.depth self.old.stage < most_steps self.new.depth self.new.stage }
-        ensures stays { self.new ≡ record self.old { stage = stage_checked self.old.stage } }
-        ensures exact { IsExact self.new.stage }
-        ensures fits { (z : Sizes) (k : List ℕ) (what : Option ℕ → Deed) (u v w : View) (asked : ActionOf) →
-            Fits z k what self.old u v → asks self.old.stage ≡ Some asked →
-            Answers z (telling (what (answer_at self.old.stage))) asked (told.Checked (Ok tt)) v w → Fits z k what self.new u w }
-    {
-        self.checked_at(self.stage);
-    }
-
     /// A version word was unchanged, where the descent stood at this stage.
     #[inline(always)]
     pub fn checked_at(&mut self, stage: Stage)
@@ -320,7 +273,6 @@ impl Descent {
         requires wants { WantsCheck (asks stage) }
         ensures steps { most_steps self.old.depth self.old.stage < most_steps self.new.depth self.new.stage }
         ensures stays { self.new ≡ record self.old { stage = stage_checked self.old.stage } }
-        ensures exact { IsExact self.new.stage }
         ensures fits { (z : Sizes) (k : List ℕ) (what : Option ℕ → Deed) (u v w : View) (asked : ActionOf) →
             Fits z k what self.old u v → asks self.old.stage ≡ Some asked →
             Answers z (telling (what (answer_at self.old.stage))) asked (told.Checked (Ok tt)) v w → Fits z k what self.new u w }
@@ -338,7 +290,6 @@ impl Descent {
     pub fn failed(&mut self)
         ensures start { self.new ≡ record self.old { stage = stages.Start } }
         ensures steps { most_steps self.new.depth self.new.stage ≡ 0 }
-        ensures exact { IsExact self.new.stage }
         ensures fits { (z : Sizes) (k : List ℕ) (what : Option ℕ → Deed) (u v : View) → IsReading u v → Fits z k what self.new u v }
     {
         self.stage = Stage::Start;
@@ -375,8 +326,6 @@ pub enum Verdict {
     Overlaps,
     /// No tree has such words: the check will fail.
     Torn,
-    /// The key has no value. Where it would stand is not said: so ends the straight way of a get, and no step of a descent.
-    Absent,
 }
 
 impl Verdict {
@@ -399,7 +348,6 @@ impl Verdict {
     pub(crate) fn within(self, key: &[u8], index: usize) -> Verdict
         ensures has { index < length key.now → result ≡ self }
         ensures ends { length key.now ≤ index → result ≡ verdicts.Overlaps }
-        ensures exact { self ≢ verdicts.Absent → result ≢ verdicts.Absent }
     {
         if index < key.len() {
             self

@@ -1,4 +1,4 @@
-//! Makes the steps of a finding, and the reads of the straight ways.
+//! Makes the steps of a finding, and the reads of its straight way.
 ghost use Rattle.std.specs.Prelude.{◌≡◌, ◌≢◌, IfNone, IfSome, None, ⊤};
 ghost use Rattle.art_find.specs.Findings.{IsToSettle};
 ghost use Rattle.art_find.specs.Asking.{MayLook};

@@ -47,11 +47,12 @@
 ghost use Rattle.std.specs.Prelude.{◌≡◌, ◌+◌, ◌≤◌, ◌<◌, ◌⊎◌, ℕ, List, Option, length, None};
 ghost use Rattle.art_find.specs.Findings.{AsksPlace, IsHeard};
 
-use crate::driver::{read_leaf_word, read_word};
+use crate::driver::look;
+use crate::read_sets::Sink;
 use crate::{Descent, ReadSet, Stage, Verdict};
 use art_cell::Cell;
 use art_machine::{Action, Answer};
-use art_step::{Changed, Locked, Stamp, Steps};
+use art_step::{Changed, EpochSteps, Locked, Stamp};
 
 /// The cell that has the node as its child where a finding stands.
 #[derive(Clone, Copy)]
@@ -85,7 +86,7 @@ pub struct Finding {
 impl Finding {
     ghost use Rattle.art_find.specs.Asking.{MayLook, WantsWord};
     ghost use Rattle.art_machine.specs.Acting.{Answers, goes_on, telling};
-    ghost use Rattle.art_find.specs.Descents.{IsExact, IsReading, Stays};
+    ghost use Rattle.art_find.specs.Descents.{IsReading, Stays};
     ghost use Rattle.art_find.specs.Descents.{answer_at, asks, ended_at, most_steps};
     ghost use Rattle.art_machine.specs.declared.actions.Action.{Action as ActionOf};
     ghost use Rattle.art_machine.specs.declared.actions.Action.TheVariants.{Begin as begin_asked, Check as check_asked, Read as read_asked};
@@ -104,7 +105,6 @@ impl Finding {
     pub fn new() -> Finding
         ensures steps { most_steps result.descent.depth result.descent.stage ≡ 0 }
         ensures going { ended_at result.descent.stage ≡ None }
-        ensures exact { IsExact result.descent.stage }
         ensures fits { (z : Sizes) (k : List ℕ) (what : Option ℕ → Deed) (read_set : ReadSetOf) (u v : View) → IsReading u v →
             FindingFits z k what result read_set u v }
     {
@@ -135,7 +135,7 @@ impl Finding {
         let (stamp, verdict) = self.descent.decided()?;
         Some(Position {
             stamp,
-            depth: self.descent.depth(),
+            depth: self.descent.depth,
             above: self.above,
             verdict,
         })
@@ -155,7 +155,6 @@ impl Finding {
         ensures stays { Stays answer self.old.descent self.new.descent }
         ensures keeps { Keeps answer (asks self.old.descent.stage) (asks self.new.descent.stage) self.new.descent.depth
             self.old.above read_set.old self.new.above read_set.new }
-        ensures exact { IsExact self.new.descent.stage }
         ensures fits { (z : Sizes) (what : Option ℕ → Deed) (u v w : View) (asked : ActionOf) →
             FindingFits z key.now what self.old read_set.old u v → asks self.old.descent.stage ≡ Some asked →
             Answers z (telling (what (answer_at self.old.descent.stage))) asked answer v w → FindingFits z key.now what self.new read_set.new u w }
@@ -168,7 +167,7 @@ impl Finding {
 
     /// Makes steps and hears them until the place is known, as long as more than one turn is left. Whether it goes on: else the last one
     /// failed, and it restarts.
-    pub fn descend<S: Steps>(
+    pub fn descend<S: EpochSteps>(
         &mut self,
         steps: &mut S,
         read_set: &mut ReadSet,
@@ -205,7 +204,7 @@ impl Finding {
     }
 
     /// Makes the next step, unless the place is known or it has ended, and hears it. Whether it goes on: else it restarts.
-    pub fn look_on<S: Steps>(
+    fn look_on<S: EpochSteps>(
         &mut self,
         steps: &mut S,
         read_set: &mut ReadSet,
@@ -219,150 +218,16 @@ impl Finding {
         ensures looked { IfSome result (λ on. LookedOn (S.sizes steps.old) key.now on self.old read_set.old (S.view steps.old)
             self.new read_set.new (S.view steps.new)) }
     {
-        // what a step needs is taken out of the stage before it: memory is read anew behind it, since other threads write there
-        match *self.descent.stage() {
-            Stage::Start => {
-                let begun = steps.begin(Cell::Anchor);
-                Some(self.hear_begun(read_set, Stage::Start, Cell::Anchor, begun))
-            }
-            Stage::Below { above, node } => {
-                let begun = steps.begin(Cell::Node(node));
-                Some(self.hear_begun(
-                    read_set,
-                    Stage::Below { above, node },
-                    Cell::Node(node),
-                    begun,
-                ))
-            }
-            Stage::Child { stamp, link } => {
-                let checked = steps.check(stamp, None);
-                Some(self.hear_checked(read_set, Stage::Child { stamp, link }, stamp, checked))
-            }
-            Stage::Both { above, stamp, node } => {
-                let checked = steps.check(above, None);
-                Some(self.hear_checked(
-                    read_set,
-                    Stage::Both { above, stamp, node },
-                    above,
-                    checked,
-                ))
-            }
-            Stage::Decided { .. } | Stage::Ended(_) => None,
-            _ => {
-                self.read_on(steps, read_set, key);
-                Some(true)
-            }
-        }
-    }
-
-    /// Reads the word that comes next of a cell or of a leaf, and hears it.
-    #[inline(always)]
-    fn read_on<S: Steps>(&mut self, steps: &mut S, read_set: &mut ReadSet, key: &[u8])
-        requires few { length key.now ≤ 64 }
-        requires word { WantsWord (asks self.old.descent.stage) }
-        requires fits { (what : Option ℕ → Deed) × (u : View) ×
-            FindingFits (S.sizes steps.old) key.now what self.old read_set.old u (S.view steps.old) }
-        ensures only { S.only steps.old steps.new }
-        ensures looked { LookedOn (S.sizes steps.old) key.now true self.old read_set.old (S.view steps.old)
-            self.new read_set.new (S.view steps.new) }
-    {
-        match *self.descent.stage() {
-            Stage::Anchor(stamp) => {
-                let word = read_word(steps, stamp, 1);
-                self.hear_word(read_set, key, Stage::Anchor(stamp), stamp, 1, word);
-            }
-            Stage::Header { stamp, node } => {
-                let word = read_word(steps, stamp, 1);
-                self.hear_word(read_set, key, Stage::Header { stamp, node }, stamp, 1, word);
-            }
-            Stage::Prefix {
-                seen,
-                number,
-                before,
-            } => {
-                let place = 2 + usize::from(number);
-                let word = read_word(steps, seen.stamp, place);
-                let stage = Stage::Prefix {
-                    seen,
-                    number,
-                    before,
-                };
-                self.hear_word(read_set, key, stage, seen.stamp, place, word);
-            }
-            Stage::Keys { seen, number } => {
-                let place = 10 + usize::from(number);
-                let word = read_word(steps, seen.stamp, place);
-                self.hear_word(
-                    read_set,
-                    key,
-                    Stage::Keys { seen, number },
-                    seen.stamp,
-                    place,
-                    word,
-                );
-            }
-            Stage::Slot { seen, place } => {
-                let word = read_word(steps, seen.stamp, place);
-                self.hear_word(
-                    read_set,
-                    key,
-                    Stage::Slot { seen, place },
-                    seen.stamp,
-                    place,
-                    word,
-                );
-            }
-            _ => self.read_leaf_on(steps, key),
-        }
-    }
-
-    /// Reads the word of a leaf that comes next, and hears it. Nothing is kept of a leaf.
-    #[inline(always)]
-    fn read_leaf_on<S: Steps>(&mut self, steps: &mut S, key: &[u8])
-        requires few { length key.now ≤ 64 }
-        requires leaf { AsksLeaf (asks self.old.descent.stage) }
-        requires fits { (what : Option ℕ → Deed) × (read_set : ReadSetOf) × (u : View) ×
-            FindingFits (S.sizes steps.old) key.now what self.old read_set u (S.view steps.old) }
-        ensures only { S.only steps.old steps.new }
-        ensures looked { (read_set : ReadSetOf) → LookedOn (S.sizes steps.old) key.now true self.old read_set (S.view steps.old)
-            self.new read_set (S.view steps.new) }
-    {
-        match *self.descent.stage() {
-            Stage::Value { stamp, leaf } => {
-                let word = read_leaf_word(steps, stamp, leaf, 0);
-                self.descent
-                    .read_at(Stage::Value { stamp, leaf }, key, word);
-            }
-            Stage::Length { stamp, leaf, value } => {
-                let word = read_leaf_word(steps, stamp, leaf, 1);
-                self.descent
-                    .read_at(Stage::Length { stamp, leaf, value }, key, word);
-            }
-            Stage::Bytes {
-                seen,
-                number,
-                before,
-            } => {
-                let word = read_leaf_word(steps, seen.stamp, seen.leaf, 2 + usize::from(number));
-                self.descent.read_at(
-                    Stage::Bytes {
-                        seen,
-                        number,
-                        before,
-                    },
-                    key,
-                    word,
-                );
-            }
-            _ => unreachable!(),
-        }
+        let action = self.next()?;
+        let answer = look(steps, action)?;
+        Some(self.told(read_set, key, answer))
     }
 
     /// The version word that it asked for, where its descent stood at this stage, was found so. Whether it goes on.
     #[inline(always)]
-    pub(crate) fn hear_begun(
+    pub(crate) fn hear_begun<K: Sink>(
         &mut self,
-        read_set: &mut ReadSet,
+        sink: &mut K,
         stage: Stage,
         cell: Cell,
         begun: Result<Stamp, Locked>,
@@ -370,12 +235,12 @@ impl Finding {
         requires at { self.old.descent.stage ≡ stage }
         requires asked { asks stage ≡ Some (begin_asked cell) }
         ensures looked { (z : Sizes) (k : List ℕ) (v w : View) → Begun z v w cell begun →
-            LookedOn z k result self.old read_set.old v self.new read_set.new w }
+            LookedOn z k result self.old (K.kept sink.old) v self.new (K.kept sink.new) w }
     {
         match begun {
             Ok(stamp) => {
                 self.descent.began_at(stage, stamp);
-                self.enter(read_set, Some(Action::Begin { cell }));
+                self.enter(sink, Some(Action::Begin { cell }));
                 true
             }
             Err(_) => {
@@ -387,9 +252,9 @@ impl Finding {
 
     /// The word of a cell that it asked for, where its descent stood at this stage, is this: it is kept.
     #[inline(always)]
-    pub(crate) fn hear_word(
+    pub(crate) fn hear_word<K: Sink>(
         &mut self,
-        read_set: &mut ReadSet,
+        sink: &mut K,
         key: &[u8],
         stage: Stage,
         stamp: Stamp,
@@ -401,20 +266,20 @@ impl Finding {
         requires asked { asks stage ≡ Some (read_asked stamp place) }
         requires inside { place < 266 }
         requires fits { (z : Sizes) × (what : Option ℕ → Deed) × (u : View) × (v : View) ×
-            FindingFits z key.now what self.old read_set.old u v }
+            FindingFits z key.now what self.old (K.kept sink.old) u v }
         ensures looked { (z : Sizes) (v w : View) → WasRead z v w stamp place word →
-            LookedOn z key.now true self.old read_set.old v self.new read_set.new w }
+            LookedOn z key.now true self.old (K.kept sink.old) v self.new (K.kept sink.new) w }
     {
         let _ = stamp.version;
         self.descent.read_at(stage, key, word);
-        read_set.note(place, word);
+        sink.note(place, word);
     }
 
     /// The cell that it asked for, where its descent stood at this stage, was checked. Whether it goes on.
     #[inline(always)]
-    pub(crate) fn hear_checked(
+    pub(crate) fn hear_checked<K: Sink>(
         &mut self,
-        read_set: &mut ReadSet,
+        sink: &mut K,
         stage: Stage,
         stamp: Stamp,
         checked: Result<(), Changed>,
@@ -422,12 +287,12 @@ impl Finding {
         requires at { self.old.descent.stage ≡ stage }
         requires asked { asks stage ≡ Some (check_asked stamp) }
         ensures looked { (z : Sizes) (k : List ℕ) (v w : View) → WasChecked z v w stamp None checked →
-            LookedOn z k result self.old read_set.old v self.new read_set.new w }
+            LookedOn z k result self.old (K.kept sink.old) v self.new (K.kept sink.new) w }
     {
         match checked {
             Ok(()) => {
                 self.descent.checked_at(stage);
-                self.enter(read_set, Some(Action::Check { stamp }));
+                self.enter(sink, Some(Action::Check { stamp }));
                 true
             }
             Err(_) => {
@@ -454,21 +319,21 @@ impl Finding {
 
     /// A version word was asked for. Where a read of a cell comes next, the finding stands on that cell from now on.
     #[inline(always)]
-    fn enter(&mut self, read_set: &mut ReadSet, asked: Option<Action>)
+    fn enter<K: Sink>(&mut self, sink: &mut K, asked: Option<Action>)
         ensures descent { self.new.descent ≡ self.old.descent }
-        ensures enters { Enters asked (asks self.old.descent.stage) self.old.descent.depth self.old.above read_set.old
-            self.new.above read_set.new }
+        ensures enters { Enters asked (asks self.old.descent.stage) self.old.descent.depth self.old.above (K.kept sink.old)
+            self.new.above (K.kept sink.new) }
     {
         match self.descent.next() {
             Some(Action::Read { .. }) => match asked {
                 Some(Action::Check { stamp }) => {
-                    let depth = self.descent.depth();
+                    let depth = self.descent.depth;
                     self.above = Some(Above { stamp, depth });
-                    read_set.go_down();
+                    sink.go_down();
                 }
                 _ => {
                     self.above = None;
-                    read_set.clear();
+                    sink.clear();
                 }
             },
             _ => {}

@@ -55,21 +55,24 @@
 //! next byte, or the key and another overlap. `Says` has what each shows of the tree. The stamp is that of the anchor, of the
 //! node, or of the cell that names the leaf: the one on which the descent stands (`stands_on`, and `stays` from step to step).
 //!
-//! # The straight way
-//!
-//! A machine's stage stands in memory between two steps, in one form or another, and a loop that asks it for each step spends
-//! more instructions on stages than on words. A get goes straight down instead (`go_down`), as long as nothing stops it: the same
-//! steps in the same order, each a call of its own that hands the next one what it needs. Its contracts say at which stage the
-//! descent would stand (`GetGoes`), so that where something does stop it (a version word that is locked or changed, few turns)
-//! the machine goes on from there. A word is read by `read_word` or `read_leaf_word`, which ask for what a machine's reads ask
-//! for (`IsAllowed`): a path to the cell was noted, or the cell that names the leaf was checked.
-//!
 //! # For a change
 //!
 //! An insert or a removal that goes on from there needs more than a get: the cell above stays stamped, and the words that were
 //! read are kept. `Finding` is a descent that keeps them in a `ReadSet` (`src/findings.rt` teaches it), and a `Rereading` reads the
-//! words of a cell that the descent had no need of. A finding goes straight down too (`src/nodes.rt`): the steps of `descend` are
-//! those of its machine, in the same order, and where something stops it the machine goes on.
+//! words of a cell that the descent had no need of.
+//!
+//! # The straight way
+//!
+//! A machine's stage stands in memory between two steps, in one form or another, and a loop that asks it for each step spends
+//! more instructions on stages than on words. So a finding goes straight down instead (`src/nodes.rt`), as long as nothing stops it:
+//! the same steps in the same order, each a call of its own that hands the next one what it needs. Its contracts say at which stage
+//! the finding would stand, so that where something does stop it (a version word that is locked or changed, few turns) the machine
+//! goes on from there. A word is read by `read_word` or `read_leaf_word`, which ask for what a machine's reads ask for
+//! (`IsAllowed`): a path to the cell was noted, or the cell that names the leaf was checked.
+//!
+//! There is one such way, for `descend` of a change and for `go_down` of a get. Each word of a cell is handed to a `Sink`: a change's
+//! is its `ReadSet`, and that of a get keeps nothing. What the sink of a get was handed stands in proofs alone, so that these are the
+//! same for both.
 //!
 //! # How many steps
 //!
@@ -80,6 +83,7 @@
 mod descents;
 mod driver;
 mod findings;
+mod no_words;
 mod nodes;
 mod read_sets;
 mod reads;

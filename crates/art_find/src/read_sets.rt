@@ -1,4 +1,4 @@
-//! The words that a finding keeps, and the reading of those of a cell that were not read yet.
+//! Where a finding hands the words that it reads; those that it keeps, and the reading of those of a cell that were not read yet.
 ghost use Rattle.std.specs.Prelude.{◌≡◌, ◌<◌, ◌≤◌, ◌-◌, ℕ, None, Some, replicate, set, List, Option, length};
 ghost use Rattle.art_find.specs.ReadSets.{above_of, node_of};
 ghost use Rattle.art_cell.specs.Reads.{word_read};
@@ -10,6 +10,31 @@ use crate::driver::read_word;
 use art_cell::{Cell, Reads};
 use art_machine::Action;
 use art_step::{Stamp, Steps};
+
+/// Takes the words that a descent reads of cells: a change keeps them, a get does not.
+pub(crate) trait Sink {
+    ghost use Rattle.art_find.specs.ReadSets.{above_of, node_of};
+    ghost use Rattle.art_find.specs.declared.read_sets.ReadSet.{ReadSet as ReadSetOf};
+
+    /// All that was handed to it, of the cell where the descent stands and of the one above it.
+    ghost kept: { Self → ReadSetOf };
+
+    /// A word of the cell where the descent stands was read.
+    fn note(&mut self, place: usize, word: u64)
+        requires { place < 266 }
+        ensures node { node_of (kept self.new) ≡ set (node_of (kept self.old)) place (Some word) }
+        ensures above { above_of (kept self.new) ≡ above_of (kept self.old) };
+
+    /// The cell where the descent stands is another one.
+    fn clear(&mut self)
+        ensures node { node_of (kept self.new) ≡ replicate 266 None }
+        ensures above { above_of (kept self.new) ≡ above_of (kept self.old) };
+
+    /// The descent goes one cell down: where it stood is now above.
+    fn go_down(&mut self)
+        ensures node { node_of (kept self.new) ≡ replicate 266 None }
+        ensures above { above_of (kept self.new) ≡ node_of (kept self.old) };
+}
 
 /// All words that were read of the cell where a finding stands, and of the one above it.
 ///
@@ -155,14 +180,13 @@ impl ReadSet {
             rereading.read_on(steps, stamp, &mut self.second, left);
         }
     }
+}
 
-    /// A word of the cell where the finding stands was read.
+impl Sink for ReadSet {
+    ghost kept = { λ s. s };
+
     #[inline(always)]
-    pub(crate) fn note(&mut self, place: usize, word: u64)
-        requires { place < 266 }
-        ensures node { node_of self.new ≡ set (node_of self.old) place (Some word) }
-        ensures above { above_of self.new ≡ above_of self.old }
-    {
+    fn note(&mut self, place: usize, word: u64) {
         if self.turned {
             self.second.note(place, word);
         } else {
@@ -170,11 +194,7 @@ impl ReadSet {
         }
     }
 
-    /// Forgets what was read of the cell where the finding stands.
-    pub(crate) fn clear(&mut self)
-        ensures node { node_of self.new ≡ replicate 266 None }
-        ensures above { above_of self.new ≡ above_of self.old }
-    {
+    fn clear(&mut self) {
         if self.turned {
             self.second.clear();
         } else {
@@ -182,11 +202,7 @@ impl ReadSet {
         }
     }
 
-    /// The finding goes one cell down: where it stood is now above.
-    pub(crate) fn go_down(&mut self)
-        ensures node { node_of self.new ≡ replicate 266 None }
-        ensures above { above_of self.new ≡ node_of self.old }
-    {
+    fn go_down(&mut self) {
         self.turned = !self.turned;
         self.clear();
     }

@@ -14,7 +14,7 @@ impl Descent {
     ghost use Rattle.art_find.specs.Asking.{WantsWord};
     ghost use Rattle.art_machine.specs.Acting.{Answers, telling};
     ghost use Rattle.art_find.specs.Compares.{IsWithin};
-    ghost use Rattle.art_find.specs.Descents.{Fits, IsAbove, IsExact, IsOn, IsReading, WasNoted};
+    ghost use Rattle.art_find.specs.Descents.{Fits, IsAbove, IsOn, IsReading, WasNoted};
     ghost use Rattle.art_find.specs.Descents.{answer_at, asks, ended_at, later_key, most_steps, stands_on};
     ghost use Rattle.art_find.specs.Ways.{HasHeader, IsAtKeys, IsAtLeaf, IsAtSlot, IsInKey, IsInPrefix, IsOnNode, IsPassed, count_in};
     ghost use Rattle.art_machine.specs.declared.actions.Answer.TheVariants as told;
@@ -24,23 +24,6 @@ impl Descent {
     ghost use Rattle.art_step.specs.declared.views.Sizes.{Sizes};
     ghost use Rattle.art_step.specs.declared.views.View.{View};
     ghost use Rattle.std.specs.Prelude.{Some};
-
-    /// The word that it asked for is this.
-    #[inline(always)]
-    pub fn read(&mut self, key: &[u8], word: u64)
-        requires few { length key.now ≤ 64 }
-        requires wants { WantsWord (asks self.old.stage) }
-        requires fits { (z : Sizes) × (what : Option ℕ → Deed) × (u : View) × (v : View) × Fits z key.now what self.old u v }
-        ensures steps { most_steps self.old.depth self.old.stage < most_steps self.new.depth self.new.stage }
-        ensures going { ended_at self.new.stage ≡ None }
-        ensures stays { stands_on self.new.stage ≡ stands_on self.old.stage }
-        ensures exact { IsExact self.new.stage }
-        ensures fits { (z : Sizes) (what : Option ℕ → Deed) (u v w : View) (asked : ActionOf) →
-            Fits z key.now what self.old u v → asks self.old.stage ≡ Some asked →
-            Answers z (telling (what (answer_at self.old.stage))) asked (told.Word word) v w → Fits z key.now what self.new u w }
-    {
-        self.read_at(self.stage, key, word);
-    }
 
     /// The word that it asked for, where it stood at this stage, is this.
     #[inline(always)]
@@ -52,7 +35,6 @@ impl Descent {
         ensures steps { most_steps self.old.depth self.old.stage < most_steps self.new.depth self.new.stage }
         ensures going { ended_at self.new.stage ≡ None }
         ensures stays { stands_on self.new.stage ≡ stands_on self.old.stage }
-        ensures exact { IsExact self.new.stage }
         ensures fits { (z : Sizes) (what : Option ℕ → Deed) (u v w : View) (asked : ActionOf) →
             Fits z key.now what self.old u v → asks self.old.stage ≡ Some asked →
             Answers z (telling (what (answer_at self.old.stage))) asked (told.Word word) v w → Fits z key.now what self.new u w }
@@ -95,7 +77,6 @@ impl Descent {
         ensures steps { 1 < most_steps self.new.depth self.new.stage }
         ensures going { ended_at self.new.stage ≡ None }
         ensures stays { stands_on self.new.stage ≡ Some stamp }
-        ensures exact { IsExact self.new.stage }
         ensures fits { (z : Sizes) (what : Option ℕ → Deed) (u w : View) → IsReading u w → HasStamp z w stamp →
             stamp.cell ≡ cells.Anchor → Shows z w stamp (λ s. s cells.Anchor 1 ≡ word) → WasNoted w stamp word →
             Fits z key.now what self.new u w }
@@ -119,7 +100,6 @@ impl Descent {
         ensures steps { 18 * self.old.depth + 5 < most_steps self.new.depth self.new.stage }
         ensures going { ended_at self.new.stage ≡ None }
         ensures stays { stands_on self.new.stage ≡ Some seen.stamp }
-        ensures exact { IsExact self.new.stage }
         ensures fits { (z : Sizes) (what : Option ℕ → Deed) (u w : View) → IsOn z u w seen.stamp seen.node →
             Shows z w seen.stamp (λ s. HasHeader s seen.node key.now self.old.depth seen.header) → Fits z key.now what self.new u w }
     {
@@ -151,7 +131,6 @@ impl Descent {
         ensures steps { 18 * self.old.depth + 6 + number < most_steps self.new.depth self.new.stage }
         ensures going { ended_at self.new.stage ≡ None }
         ensures stays { stands_on self.new.stage ≡ Some seen.stamp }
-        ensures exact { IsExact self.new.stage }
         ensures fits { (z : Sizes) (what : Option ℕ → Deed) (u w : View) → IsOn z u w seen.stamp seen.node →
             Shows z w seen.stamp (λ s. IsInPrefix s seen.node key.now self.old.depth seen.header number before) →
             Shows z w seen.stamp (λ s. s (cells.Node seen.node) (2 + number) ≡ word) → Fits z key.now what self.new u w }
@@ -201,7 +180,6 @@ impl Descent {
         ensures steps { 18 * self.old.depth + 13 < most_steps self.new.depth self.new.stage }
         ensures going { ended_at self.new.stage ≡ None }
         ensures stays { stands_on self.new.stage ≡ Some seen.stamp }
-        ensures exact { IsExact self.new.stage }
         ensures fits { (z : Sizes) (what : Option ℕ → Deed) (u w : View) → IsOn z u w seen.stamp seen.node →
             Shows z w seen.stamp (λ s. IsPassed s seen.node key.now self.old.depth seen.header) → Fits z key.now what self.new u w }
     {
@@ -225,7 +203,6 @@ impl Descent {
         ensures steps { 18 * self.old.depth + 14 + later_key number < most_steps self.new.depth self.new.stage }
         ensures going { ended_at self.new.stage ≡ None }
         ensures stays { stands_on self.new.stage ≡ Some seen.stamp }
-        ensures exact { IsExact self.new.stage }
         ensures fits { (z : Sizes) (what : Option ℕ → Deed) (u w : View) → IsOn z u w seen.stamp seen.node →
             Shows z w seen.stamp (λ s. IsAtKeys s seen.node key.now self.old.depth seen.header number) →
             Shows z w seen.stamp (λ s. s (cells.Node seen.node) (10 + number) ≡ word) → Fits z key.now what self.new u w }
@@ -244,7 +221,6 @@ impl Descent {
         ensures steps { 18 * self.old.depth + 16 < most_steps self.new.depth self.new.stage }
         ensures going { ended_at self.new.stage ≡ None }
         ensures stays { stands_on self.new.stage ≡ Some seen.stamp }
-        ensures exact { IsExact self.new.stage }
         ensures fits { (z : Sizes) (what : Option ℕ → Deed) (u w : View) → IsOn z u w seen.stamp seen.node →
             Shows z w seen.stamp (λ s. IsAtSlot s seen.node key.now self.old.depth seen.header place) →
             Shows z w seen.stamp (λ s. s (cells.Node seen.node) place ≡ word) → WasNoted w seen.stamp word →
@@ -279,7 +255,6 @@ impl Descent {
         ensures steps { 18 * self.old.depth + 4 < most_steps self.new.depth self.new.stage }
         ensures going { ended_at self.new.stage ≡ None }
         ensures stays { stands_on self.new.stage ≡ Some stamp }
-        ensures exact { IsExact self.new.stage }
         ensures fits { (z : Sizes) (what : Option ℕ → Deed) (u w : View) → IsAbove z u w stamp leaf →
             Shows z w stamp (λ s. IsAtLeaf s stamp.cell leaf (take self.old.depth key.now) value) →
             Shows z w stamp (λ s. s (cells.Leaf leaf) 1 ≡ bytes) → Fits z key.now what self.new u w }
@@ -327,7 +302,6 @@ impl Descent {
         ensures steps { 18 * self.old.depth + 5 + number < most_steps self.new.depth self.new.stage }
         ensures going { ended_at self.new.stage ≡ None }
         ensures stays { stands_on self.new.stage ≡ Some seen.stamp }
-        ensures exact { IsExact self.new.stage }
         ensures fits { (z : Sizes) (what : Option ℕ → Deed) (u w : View) → IsAbove z u w seen.stamp seen.leaf →
             Shows z w seen.stamp (λ s. IsInKey s seen key.now (take self.old.depth key.now) number before) →
             Shows z w seen.stamp (λ s. s (cells.Leaf seen.leaf) (2 + number) ≡ word) → Fits z key.now what self.new u w }

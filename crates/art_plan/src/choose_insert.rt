@@ -318,8 +318,6 @@ pub fn plan_insert(
                 to_byte(change, bodies, position, read_set, new)
             }
         }
-        Verdict::Found { .. } | Verdict::Overlaps | Verdict::Torn | Verdict::Absent => {
-            unreachable!()
-        }
+        Verdict::Found { .. } | Verdict::Overlaps | Verdict::Torn => { unreachable!() }
     }
 }

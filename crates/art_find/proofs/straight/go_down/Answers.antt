@@ -1,39 +1,41 @@
-use Rattle.std.proofs.Common.{sym, subst, arith}
-use Rattle.art_find.specs.Straight.{GetGoes, at_stage}
-use Rattle.art_find.specs.declared.descents.Stage.{Stage}
+use Rattle.std.proofs.Common.{◌+◌, Bool, None, refl, subst}
+use Rattle.art_find.proofs.Going.{get_back, get_came}
+use Rattle.art_find.proofs.Passing.{came_now}
+use Rattle.art_find.specs.Nodes.{Arrives, moment}
+use Rattle.art_find.specs.declared.findings.Finding.{Finding}
 use Rattle.art_find.proofs.straight.go_down.Goals as goal
 
-pub loop-tally-init : goal.loop-tally-init
-loop-tally-init g c =
-    let b = c.requires.goes in
-    record {
-      only = c.in-Some.ensures.only;
-      left = c.in-Some.ensures.left;
-      less = c.in-Some.ensures.less;
-      going = (b.0, b.1, c.in-Some.ensures.goes c.args.key.now b.0 b.1 b.2);
-      goes = λ turns u before. c.in-Some.ensures.goes c.args.key.now turns u before;
-    }
+pub returns-then-not-on-clause-goes : goal.returns-then-not-on-clause-goes
+returns-then-not-on-clause-goes g c = λ turns u before.
+    let s = c.pass_nodes-on.new in
+    let k = c.args.key.now in
+    let z = g.S.Steps.sizes c.args.steps.now in
+    let z' = g.S.Steps.sizes s.steps in
+    let v = g.S.Steps.view c.args.steps.now in
+    let w = g.S.Steps.view s.steps in
+    let m : Finding = record { descent = c.args.descent.now; above = None } in
+    let kept = c.new.result.kept.value in
+    let kept' = s.sink.kept.value in
+    let t = c.args.tally.now in
+    let now = moment z v kept t.left in
+    let later = moment z' w kept' s.left in
+    get_back z z' k turns u v w m s.self kept kept' t (record { left = s.left; restarts = t.restarts + 1 }) c.pass_nodes-on.ensures.less c.in-Start.is before
+    (g.met.S.Steps.only_sizes c.args.steps.now s.steps c.pass_nodes-on.ensures.only) refl
+    (subst (λ (b : Bool). Arrives b k m now s.self later) c.if-not-on.true (c.pass_nodes-on.ensures.goes m now (came_now k m now)))
 
-pub loop-tally-preserved : goal.loop-tally-preserved
-loop-tally-preserved g c =
-    let l = c.loop-tally in
-    let i = l.invariant in
-    let next = c.in-Some-enter.ensures in
-    record {
-      only = g.met.S.Steps.only_then c.args.steps.now l.steps c.enter.new.steps i.only next.only;
-      left = next.left;
-      less = omega (arith, i.less, next.less);
-      going = (i.going.0, i.going.1, next.goes i.going.0 i.going.1 i.going.2);
-      goes = λ turns u before. next.goes turns u (i.goes turns u before);
-    }
-
-pub returns-in-None-clause-goes : goal.returns-in-None-clause-goes
-returns-in-None-clause-goes g c = λ turns u before. c.in-None.ensures.goes turns u (c.loop-tally.invariant.goes turns u before)
-
-pub returns-in_default-clause-goes : goal.returns-in_default-clause-goes
-returns-in_default-clause-goes g c = λ turns u before. c.in_default.ensures.goes c.args.key.now turns u before
-
-pub returns-clause-goes : goal.returns-clause-goes
-returns-clause-goes g c = λ turns u before.
-    let l = c.loop-tally in
-    subst (λ (s : Stage). GetGoes (g.S.Steps.sizes l.steps) c.args.key.now turns u (g.S.Steps.view l.steps) (at_stage l.below.depth s) l.tally) (sym c.below.ensures) (l.invariant.goes turns u before)
+pub returns-else-not-on-clause-goes : goal.returns-else-not-on-clause-goes
+returns-else-not-on-clause-goes g c = λ turns u before.
+    let s = c.pass_nodes-on.new in
+    let k = c.args.key.now in
+    let z = g.S.Steps.sizes c.args.steps.now in
+    let z' = g.S.Steps.sizes s.steps in
+    let v = g.S.Steps.view c.args.steps.now in
+    let w = g.S.Steps.view s.steps in
+    let m : Finding = record { descent = c.args.descent.now; above = None } in
+    let kept = c.new.result.kept.value in
+    let kept' = s.sink.kept.value in
+    let t = c.args.tally.now in
+    let now = moment z v kept t.left in
+    let later = moment z' w kept' s.left in
+    get_came z z' k turns u v w m s.self kept kept' t (record { left = s.left; restarts = t.restarts }) c.pass_nodes-on.ensures.less c.in-Start.is before refl
+    (subst (λ (b : Bool). Arrives b k m now s.self later) c.if-not-on.false (c.pass_nodes-on.ensures.goes m now (came_now k m now)))

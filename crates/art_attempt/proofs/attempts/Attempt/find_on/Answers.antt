@@ -95,7 +95,6 @@ returns-else-not-on-clause-fits c z u v w asked fits is heard =
       has = seeks.has;
       fits = subst (λ (k : List ℕ). FindingFits z k what c.told-on.new.self c.told-on.new.read_set seeks.early w) slice fits;
       going = still_going z d asked c.args.answer v w f.descent c.told-on.new.self.descent c.told-on.ensures.stays at row none seeks.going on;
-      exact = c.told-on.ensures.exact;
     } in
     record { room = record { sizes = room.sizes; key = room.key }; stage = found }
 

@@ -15,6 +15,5 @@ returns-clause-fits c z u r room still has =
         has = has;
         fits = c.new.ensures.fits z r.row.key.items (settled_of c.args.job r.row) r.read_set u u (record { only = refl; free = still.free; pinned = still.pinned });
         going = c.new.ensures.going;
-        exact = c.new.ensures.exact;
       };
     }

@@ -37,7 +37,7 @@ returns-then-not-passed-clause-fits c z u v w f room seeks at row =
     let b = settles m.job t.verdict in
     let later = cell_later z d (check_of m.job t) c.args.answer v w (check_look b t.stamp) row in
     let step = cell_step z d (check_of m.job t) c.args.answer v w (check_look b t.stamp) row in
-    let s = stands_there z r.row.key.items (settled_of m.job r.row) f r.read_set seeks.early v seeks.fits seeks.exact t at in
+    let s = stands_there z r.row.key.items (settled_of m.job r.row) f r.read_set seeks.early v seeks.fits t at in
     let so = fails_there z u m.job f r v w room.key.short seeks later step t s d b c.args.answer row (sym c.passed.ensures ∙ c.if-not-passed.true) in
     record { room = room; stage = record { position = anywhere; case = NewLeaf; ends = (record { still = so.0.still; spent = so.0.spent; has = so.0.has }, so.1) } }
 

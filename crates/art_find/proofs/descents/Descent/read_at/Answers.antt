@@ -120,9 +120,6 @@ returns-in-Anchor-clause-stays c =
 pub returns-in-Anchor-clause-going : goal.returns-in-Anchor-clause-going
 returns-in-Anchor-clause-going c = c.see_root.ensures.going
 
-pub returns-in-Anchor-clause-exact : goal.returns-in-Anchor-clause-exact
-returns-in-Anchor-clause-exact c = c.see_root.ensures.exact
-
 pub returns-in-Header-clause-steps : goal.returns-in-Header-clause-steps
 returns-in-Header-clause-steps c =
     let a = c.in-Header in
@@ -135,9 +132,6 @@ returns-in-Header-clause-stays c =
 
 pub returns-in-Header-clause-going : goal.returns-in-Header-clause-going
 returns-in-Header-clause-going c = c.see_header.ensures.going
-
-pub returns-in-Header-clause-exact : goal.returns-in-Header-clause-exact
-returns-in-Header-clause-exact c = c.see_header.ensures.exact
 
 pub returns-in-Prefix-clause-steps : goal.returns-in-Prefix-clause-steps
 returns-in-Prefix-clause-steps c =
@@ -152,9 +146,6 @@ returns-in-Prefix-clause-stays c =
 pub returns-in-Prefix-clause-going : goal.returns-in-Prefix-clause-going
 returns-in-Prefix-clause-going c = c.see_prefix.ensures.going
 
-pub returns-in-Prefix-clause-exact : goal.returns-in-Prefix-clause-exact
-returns-in-Prefix-clause-exact c = c.see_prefix.ensures.exact
-
 pub returns-in-Keys-clause-steps : goal.returns-in-Keys-clause-steps
 returns-in-Keys-clause-steps c =
     let a = c.in-Keys in
@@ -167,9 +158,6 @@ returns-in-Keys-clause-stays c =
 
 pub returns-in-Keys-clause-going : goal.returns-in-Keys-clause-going
 returns-in-Keys-clause-going c = c.see_keys.ensures.going
-
-pub returns-in-Keys-clause-exact : goal.returns-in-Keys-clause-exact
-returns-in-Keys-clause-exact c = c.see_keys.ensures.exact
 
 pub returns-in-Slot-clause-steps : goal.returns-in-Slot-clause-steps
 returns-in-Slot-clause-steps c =
@@ -184,9 +172,6 @@ returns-in-Slot-clause-stays c =
 pub returns-in-Slot-clause-going : goal.returns-in-Slot-clause-going
 returns-in-Slot-clause-going c = c.see_slot.ensures.going
 
-pub returns-in-Slot-clause-exact : goal.returns-in-Slot-clause-exact
-returns-in-Slot-clause-exact c = c.see_slot.ensures.exact
-
 pub returns-in-Length-clause-steps : goal.returns-in-Length-clause-steps
 returns-in-Length-clause-steps c =
     let a = c.in-Length in
@@ -200,9 +185,6 @@ returns-in-Length-clause-stays c =
 pub returns-in-Length-clause-going : goal.returns-in-Length-clause-going
 returns-in-Length-clause-going c = c.see_length.ensures.going
 
-pub returns-in-Length-clause-exact : goal.returns-in-Length-clause-exact
-returns-in-Length-clause-exact c = c.see_length.ensures.exact
-
 pub returns-in-Bytes-clause-steps : goal.returns-in-Bytes-clause-steps
 returns-in-Bytes-clause-steps c =
     let a = c.in-Bytes in
@@ -215,6 +197,3 @@ returns-in-Bytes-clause-stays c =
 
 pub returns-in-Bytes-clause-going : goal.returns-in-Bytes-clause-going
 returns-in-Bytes-clause-going c = c.see_bytes.ensures.going
-
-pub returns-in-Bytes-clause-exact : goal.returns-in-Bytes-clause-exact
-returns-in-Bytes-clause-exact c = c.see_bytes.ensures.exact

@@ -42,13 +42,13 @@ module _ (z : Sizes) (k : List ℕ) (what : Option ℕ → Deed) (depth : ℕ) (
 pub returns-in-Ok-clause-fits : goal.returns-in-Ok-clause-fits
 returns-in-Ok-clause-fits c = λ z what u v w asked fits is row.
     let m = c.args.self.now in
-    c.checked.ensures.fits z c.args.key.now what u v w asked fits is
+    c.checked_at.ensures.fits z c.args.key.now what u v w asked fits is
     (subst (λ (r : Result (Unit {0}) Changed). Answers z (telling (what (answer_at m.stage))) asked (Checked r) v w) c.in-Ok.is
     (subst (λ (a : Answer). Answers z (telling (what (answer_at m.stage))) asked a v w) c.in-Checked.is row))
 
 pub returns-in-Word-clause-fits : goal.returns-in-Word-clause-fits
 returns-in-Word-clause-fits c = λ z what u v w asked fits is row.
-    c.read.ensures.fits z what u v w asked fits is (subst (λ (a : Answer). Answers z (telling (what (answer_at c.args.self.now.stage))) asked a v w) c.in-Word.is row)
+    c.read_at.ensures.fits z what u v w asked fits is (subst (λ (a : Answer). Answers z (telling (what (answer_at c.args.self.now.stage))) asked a v w) c.in-Word.is row)
 
 pub returns-in-Err-clause-fits : goal.returns-in-Err-clause-fits
 returns-in-Err-clause-fits c = λ z what u v w asked fits is row.

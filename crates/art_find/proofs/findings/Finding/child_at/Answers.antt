@@ -13,8 +13,8 @@ returns-in_default-clause-goes g c =
     let z = g.S.Steps.sizes c.args.steps.now in
     let v = g.S.Steps.view c.args.steps.now in
     let w = g.S.Steps.view c.read_word-word.new.steps in
-    came_then c.args.key.now (finding_at c.args.self.now.above c.args.depth (Slot c.args.seen c.args.place)) (moment z v c.args.read_set.now c.args.left.now)
-    c.hear_word.new.self (moment (g.S.Steps.sizes c.read_word-word.new.steps) w c.hear_word.new.read_set (c.args.left.now - 1))
+    came_then c.args.key.now (finding_at c.args.self.now.above c.args.depth (Slot c.args.seen c.args.place)) (moment z v (g.K.Sink.kept c.args.sink.now) c.args.left.now)
+    c.hear_word.new.self (moment (g.S.Steps.sizes c.read_word-word.new.steps) w (g.K.Sink.kept c.hear_word.new.sink) (c.args.left.now - 1))
     (g.met.S.Steps.only_sizes c.args.steps.now c.read_word-word.new.steps c.read_word-word.ensures.only) (omega (arith, c.requires.left))
     (c.hear_word.ensures.looked z v w c.read_word-word.ensures.row)
 
@@ -31,13 +31,13 @@ returns-clause-goes g c =
     let place = c.args.place in
     let word = c.read_word-word.result in
     let row = c.read_word-word.ensures.row in
-    let kept = c.args.read_set.now in
+    let kept = (g.K.Sink.kept c.args.sink.now) in
     let here = finding_at c.args.self.now.above depth (Slot seen place) in
     let next = finding_at c.args.self.now.above (depth + 1) (Child y c.in-Some.link) in
     let small : get_or k depth 0 < 256 = omega (arith, c.type_inv.key depth) in
-    came_then k here (moment z v kept c.args.left.now) next (moment (g.S.Steps.sizes c.read_word-word.new.steps) w c.note.new.self (c.args.left.now - 1))
+    came_then k here (moment z v kept c.args.left.now) next (moment (g.S.Steps.sizes c.read_word-word.new.steps) w (g.K.Sink.kept c.note.new.self) (c.args.left.now - 1))
     (g.met.S.Steps.only_sizes c.args.steps.now c.read_word-word.new.steps c.read_word-word.ensures.only) (omega (arith, c.requires.left))
-    (heard_on z k v w here next kept c.note.new.self (Read y place) (word_told word) refl (λ d. row) refl (omega arith) refl refl tt
+    (heard_on z k v w here next kept (g.K.Sink.kept c.note.new.self) (Read y place) (word_told word) refl (λ d. row) refl (omega arith) refl refl
     (λ what u fits. slot_fits z k what depth u w y n (node_on z u v w y place word n fits.0 row) seen.header place word fits.1.deep small
     (node_still z u v w y place word _ row fits.1.shows) (node_word z u v w y place word (cell.Node n) fits.0.cell row) c.in-Some.link (node_noted z u v w y place word row) (sym c.named_by.ensures ∙ c.in-Some.is))
     (refl, record { node = c.note.ensures.node; above = c.note.ensures.above }))

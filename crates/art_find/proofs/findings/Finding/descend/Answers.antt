@@ -39,7 +39,7 @@ returns-then-not-pass_nodes-clause-made g c =
     let m = c.args.self.now in
     let begun = moment (g.S.Steps.sizes s) (g.S.Steps.view s) c.args.read_set.now c.args.left.now in
     let came : Came k m begun l.self (moment (g.S.Steps.sizes l.steps) (g.S.Steps.view l.steps) l.read_set l.left) = record { sizes = i.sizes; made = i.made; on = i.on } in
-    let here = moment (g.S.Steps.sizes p.steps) (g.S.Steps.view p.steps) p.read_set p.left in
+    let here = moment (g.S.Steps.sizes p.steps) (g.S.Steps.view p.steps) p.sink p.left in
     let off : CameOff k m begun p.self here = subst (λ (b : Bool). Arrives b k m begun p.self here) c.if-not-pass_nodes.true (c.pass_nodes.ensures.goes m begun came) in
     off.made
 
@@ -53,7 +53,7 @@ returns-then-not-pass_nodes-clause-descends g c =
     let m = c.args.self.now in
     let begun = moment (g.S.Steps.sizes s) (g.S.Steps.view s) c.args.read_set.now c.args.left.now in
     let came : Came k m begun l.self (moment (g.S.Steps.sizes l.steps) (g.S.Steps.view l.steps) l.read_set l.left) = record { sizes = i.sizes; made = i.made; on = i.on } in
-    let here = moment (g.S.Steps.sizes p.steps) (g.S.Steps.view p.steps) p.read_set p.left in
+    let here = moment (g.S.Steps.sizes p.steps) (g.S.Steps.view p.steps) p.sink p.left in
     let off : CameOff k m begun p.self here = subst (λ (b : Bool). Arrives b k m begun p.self here) c.if-not-pass_nodes.true (c.pass_nodes.ensures.goes m begun came) in
     off.back
 
@@ -67,7 +67,7 @@ returns-then-left-le1-clause-made g c =
     let m = c.args.self.now in
     let begun = moment (g.S.Steps.sizes s) (g.S.Steps.view s) c.args.read_set.now c.args.left.now in
     let came : Came k m begun l.self (moment (g.S.Steps.sizes l.steps) (g.S.Steps.view l.steps) l.read_set l.left) = record { sizes = i.sizes; made = i.made; on = i.on } in
-    let here = moment (g.S.Steps.sizes p.steps) (g.S.Steps.view p.steps) p.read_set p.left in
+    let here = moment (g.S.Steps.sizes p.steps) (g.S.Steps.view p.steps) p.sink p.left in
     let passed : Came k m begun p.self here = subst (λ (b : Bool). Arrives b k m begun p.self here) c.if-not-pass_nodes.false (c.pass_nodes.ensures.goes m begun came) in
     passed.made
 
@@ -81,7 +81,7 @@ returns-then-left-le1-clause-descends g c =
     let m = c.args.self.now in
     let begun = moment (g.S.Steps.sizes s) (g.S.Steps.view s) c.args.read_set.now c.args.left.now in
     let came : Came k m begun l.self (moment (g.S.Steps.sizes l.steps) (g.S.Steps.view l.steps) l.read_set l.left) = record { sizes = i.sizes; made = i.made; on = i.on } in
-    let here = moment (g.S.Steps.sizes p.steps) (g.S.Steps.view p.steps) p.read_set p.left in
+    let here = moment (g.S.Steps.sizes p.steps) (g.S.Steps.view p.steps) p.sink p.left in
     let passed : Came k m begun p.self here = subst (λ (b : Bool). Arrives b k m begun p.self here) c.if-not-pass_nodes.false (c.pass_nodes.ensures.goes m begun came) in
     passed.on
 
@@ -95,7 +95,7 @@ look_on-requires-clause-fits g c =
     let m = c.args.self.now in
     let begun = moment (g.S.Steps.sizes s) (g.S.Steps.view s) c.args.read_set.now c.args.left.now in
     let came : Came k m begun l.self (moment (g.S.Steps.sizes l.steps) (g.S.Steps.view l.steps) l.read_set l.left) = record { sizes = i.sizes; made = i.made; on = i.on } in
-    let here = moment (g.S.Steps.sizes p.steps) (g.S.Steps.view p.steps) p.read_set p.left in
+    let here = moment (g.S.Steps.sizes p.steps) (g.S.Steps.view p.steps) p.sink p.left in
     let passed : Came k m begun p.self here = subst (λ (b : Bool). Arrives b k m begun p.self here) c.if-not-pass_nodes.false (c.pass_nodes.ensures.goes m begun came) in
     found_on k m begun p.self here passed c.requires.fits
 
@@ -109,12 +109,12 @@ returns-in_default-clause-made g c =
     let m = c.args.self.now in
     let begun = moment (g.S.Steps.sizes s) (g.S.Steps.view s) c.args.read_set.now c.args.left.now in
     let came : Came k m begun l.self (moment (g.S.Steps.sizes l.steps) (g.S.Steps.view l.steps) l.read_set l.left) = record { sizes = i.sizes; made = i.made; on = i.on } in
-    let here = moment (g.S.Steps.sizes p.steps) (g.S.Steps.view p.steps) p.read_set p.left in
+    let here = moment (g.S.Steps.sizes p.steps) (g.S.Steps.view p.steps) p.sink p.left in
     let passed : Came k m begun p.self here = subst (λ (b : Bool). Arrives b k m begun p.self here) c.if-not-pass_nodes.false (c.pass_nodes.ensures.goes m begun came) in
     let n = c.look_on.new in
     let same = g.met.S.Steps.only_sizes p.steps n.steps c.look_on.ensures.only in
     let e = c.in_default.ensures in
-    let still = came_still k m begun p.self n.self (g.S.Steps.sizes p.steps) (g.S.Steps.sizes n.steps) (g.S.Steps.view p.steps) (g.S.Steps.view n.steps) p.read_set n.read_set p.left same e.none.3 e.none.2 e.none.1 passed in
+    let still = came_still k m begun p.self n.self (g.S.Steps.sizes p.steps) (g.S.Steps.sizes n.steps) (g.S.Steps.view p.steps) (g.S.Steps.view n.steps) p.sink n.read_set p.left same e.none.3 e.none.2 e.none.1 passed in
     still.made
 
 pub returns-in_default-clause-descends : goal.returns-in_default-clause-descends
@@ -127,12 +127,12 @@ returns-in_default-clause-descends g c =
     let m = c.args.self.now in
     let begun = moment (g.S.Steps.sizes s) (g.S.Steps.view s) c.args.read_set.now c.args.left.now in
     let came : Came k m begun l.self (moment (g.S.Steps.sizes l.steps) (g.S.Steps.view l.steps) l.read_set l.left) = record { sizes = i.sizes; made = i.made; on = i.on } in
-    let here = moment (g.S.Steps.sizes p.steps) (g.S.Steps.view p.steps) p.read_set p.left in
+    let here = moment (g.S.Steps.sizes p.steps) (g.S.Steps.view p.steps) p.sink p.left in
     let passed : Came k m begun p.self here = subst (λ (b : Bool). Arrives b k m begun p.self here) c.if-not-pass_nodes.false (c.pass_nodes.ensures.goes m begun came) in
     let n = c.look_on.new in
     let same = g.met.S.Steps.only_sizes p.steps n.steps c.look_on.ensures.only in
     let e = c.in_default.ensures in
-    let still = came_still k m begun p.self n.self (g.S.Steps.sizes p.steps) (g.S.Steps.sizes n.steps) (g.S.Steps.view p.steps) (g.S.Steps.view n.steps) p.read_set n.read_set p.left same e.none.3 e.none.2 e.none.1 passed in
+    let still = came_still k m begun p.self n.self (g.S.Steps.sizes p.steps) (g.S.Steps.sizes n.steps) (g.S.Steps.view p.steps) (g.S.Steps.view n.steps) p.sink n.read_set p.left same e.none.3 e.none.2 e.none.1 passed in
     still.on
 
 pub returns-then-not-on-clause-made : goal.returns-then-not-on-clause-made
@@ -145,12 +145,12 @@ returns-then-not-on-clause-made g c =
     let m = c.args.self.now in
     let begun = moment (g.S.Steps.sizes s) (g.S.Steps.view s) c.args.read_set.now c.args.left.now in
     let came : Came k m begun l.self (moment (g.S.Steps.sizes l.steps) (g.S.Steps.view l.steps) l.read_set l.left) = record { sizes = i.sizes; made = i.made; on = i.on } in
-    let here = moment (g.S.Steps.sizes p.steps) (g.S.Steps.view p.steps) p.read_set p.left in
+    let here = moment (g.S.Steps.sizes p.steps) (g.S.Steps.view p.steps) p.sink p.left in
     let passed : Came k m begun p.self here = subst (λ (b : Bool). Arrives b k m begun p.self here) c.if-not-pass_nodes.false (c.pass_nodes.ensures.goes m begun came) in
     let n = c.look_on.new in
     let later = moment (g.S.Steps.sizes n.steps) (g.S.Steps.view n.steps) n.read_set (p.left - 1) in
     let same = g.met.S.Steps.only_sizes p.steps n.steps c.look_on.ensures.only in
-    let looked = subst (λ (b : Bool). LookedOn (g.S.Steps.sizes p.steps) k b p.self p.read_set (g.S.Steps.view p.steps) n.self n.read_set (g.S.Steps.view n.steps)) c.if-not-on.true c.in-Some.ensures.looked in
+    let looked = subst (λ (b : Bool). LookedOn (g.S.Steps.sizes p.steps) k b p.self p.sink (g.S.Steps.view p.steps) n.self n.read_set (g.S.Steps.view n.steps)) c.if-not-on.true c.in-Some.ensures.looked in
     (came_off k p.self here n.self later same (omega (arith, c.if-left-le1.false)) looked m begun passed).made
 
 pub returns-then-not-on-clause-descends : goal.returns-then-not-on-clause-descends
@@ -163,12 +163,12 @@ returns-then-not-on-clause-descends g c =
     let m = c.args.self.now in
     let begun = moment (g.S.Steps.sizes s) (g.S.Steps.view s) c.args.read_set.now c.args.left.now in
     let came : Came k m begun l.self (moment (g.S.Steps.sizes l.steps) (g.S.Steps.view l.steps) l.read_set l.left) = record { sizes = i.sizes; made = i.made; on = i.on } in
-    let here = moment (g.S.Steps.sizes p.steps) (g.S.Steps.view p.steps) p.read_set p.left in
+    let here = moment (g.S.Steps.sizes p.steps) (g.S.Steps.view p.steps) p.sink p.left in
     let passed : Came k m begun p.self here = subst (λ (b : Bool). Arrives b k m begun p.self here) c.if-not-pass_nodes.false (c.pass_nodes.ensures.goes m begun came) in
     let n = c.look_on.new in
     let later = moment (g.S.Steps.sizes n.steps) (g.S.Steps.view n.steps) n.read_set (p.left - 1) in
     let same = g.met.S.Steps.only_sizes p.steps n.steps c.look_on.ensures.only in
-    let looked = subst (λ (b : Bool). LookedOn (g.S.Steps.sizes p.steps) k b p.self p.read_set (g.S.Steps.view p.steps) n.self n.read_set (g.S.Steps.view n.steps)) c.if-not-on.true c.in-Some.ensures.looked in
+    let looked = subst (λ (b : Bool). LookedOn (g.S.Steps.sizes p.steps) k b p.self p.sink (g.S.Steps.view p.steps) n.self n.read_set (g.S.Steps.view n.steps)) c.if-not-on.true c.in-Some.ensures.looked in
     (came_off k p.self here n.self later same (omega (arith, c.if-left-le1.false)) looked m begun passed).back
 
 pub loop-self-preserved : goal.loop-self-preserved
@@ -181,12 +181,12 @@ loop-self-preserved g c =
     let m = c.args.self.now in
     let begun = moment (g.S.Steps.sizes s) (g.S.Steps.view s) c.args.read_set.now c.args.left.now in
     let came : Came k m begun l.self (moment (g.S.Steps.sizes l.steps) (g.S.Steps.view l.steps) l.read_set l.left) = record { sizes = i.sizes; made = i.made; on = i.on } in
-    let here = moment (g.S.Steps.sizes p.steps) (g.S.Steps.view p.steps) p.read_set p.left in
+    let here = moment (g.S.Steps.sizes p.steps) (g.S.Steps.view p.steps) p.sink p.left in
     let passed : Came k m begun p.self here = subst (λ (b : Bool). Arrives b k m begun p.self here) c.if-not-pass_nodes.false (c.pass_nodes.ensures.goes m begun came) in
     let n = c.look_on.new in
     let later = moment (g.S.Steps.sizes n.steps) (g.S.Steps.view n.steps) n.read_set (p.left - 1) in
     let same = g.met.S.Steps.only_sizes p.steps n.steps c.look_on.ensures.only in
-    let looked = subst (λ (b : Bool). LookedOn (g.S.Steps.sizes p.steps) k b p.self p.read_set (g.S.Steps.view p.steps) n.self n.read_set (g.S.Steps.view n.steps)) c.if-not-on.false c.in-Some.ensures.looked in
+    let looked = subst (λ (b : Bool). LookedOn (g.S.Steps.sizes p.steps) k b p.self p.sink (g.S.Steps.view p.steps) n.self n.read_set (g.S.Steps.view n.steps)) c.if-not-on.false c.in-Some.ensures.looked in
     let done = came_then k p.self here n.self later same (omega (arith, c.if-left-le1.false)) looked m begun passed in
     record {
       only = g.met.S.Steps.only_then s p.steps n.steps (g.met.S.Steps.only_then s l.steps p.steps i.only c.pass_nodes.ensures.only) c.look_on.ensures.only;

@@ -1,9 +1,10 @@
-use Rattle.std.proofs.Common.{◌∙◌, Option, None, true, false, Some, refl, sym, ap, subst}
+use Rattle.std.proofs.Common.{◌≡◌, ◌∙◌, Option, None, true, false, Some, refl, sym, ap, subst}
 use Rattle.std.specs.Prelude.{Result, Ok, Err}
+use Rattle.art_find.specs.Asking.{WantsCheck}
 use Rattle.art_find.specs.Descents.{asks, ended_at}
 use Rattle.art_machine.specs.declared.actions.Answer.TheVariants.{Checked}
 use Rattle.art_machine.specs.declared.actions.Action.{Action}
-use Rattle.art_machine.specs.declared.actions.Action.TheVariants.{Begin, Check}
+use Rattle.art_machine.specs.declared.actions.Action.TheVariants.{Begin, Check, Settle}
 use Rattle.art_find.specs.declared.descents.Descent.{Descent}
 use Rattle.art_find.specs.declared.descents.Stage.{Stage}
 use Rattle.art_cell.specs.declared.cells.Cell.TheVariants as cell
@@ -15,7 +16,7 @@ use Rattle.art_step.specs.declared.faults.Changed.{Changed}
 use Rattle.art_find.proofs.findings.Finding.hear_checked.Goals as goal
 
 pub returns-in-Ok : goal.returns-in-Ok
-returns-in-Ok c = record {
+returns-in-Ok g c = record {
   looked = λ z k v w at.
       let m = c.args.self.now in
       let n = c.checked_at.new.self in
@@ -26,18 +27,17 @@ returns-in-Ok c = record {
         further = λ on. c.checked_at.ensures.steps;
         anew = λ off. absurd (cc);
         stays = c.checked_at.ensures.stays;
-        going = ap (λ (d : Descent). ended_at d.stage) c.checked_at.ensures.stays ∙ checked_going m.descent.stage c.args.stamp is;
-        exact = c.checked_at.ensures.exact;
+        going = ap (λ (d : Descent). ended_at d.stage) c.checked_at.ensures.stays ∙ checked_going m.descent.stage (subst WantsCheck (sym is) tt) (λ x e. let no : Some (Check c.args.stamp) ≡ Some (Settle x) = sym is ∙ e in cc);
         fits = λ what u before. c.checked_at.ensures.fits z k what u v w asked before is row;
       } in
-      let keeps : Keeps (Checked (Ok tt)) (asks m.descent.stage) (asks n.stage) n.depth m.above c.args.read_set.now c.enter.new.self.above c.enter.new.read_set =
-      subst (λ (o : Option Action). Enters o (asks n.stage) n.depth m.above c.args.read_set.now c.enter.new.self.above c.enter.new.read_set) (sym is) c.enter.ensures.enters in
-      looked_on z k true m c.enter.new.self c.args.read_set.now c.enter.new.read_set v w asked (Checked (Ok tt)) is (λ d. row) refl
-      (heard z k true m c.enter.new.self c.args.read_set.now c.enter.new.read_set v w asked (Checked (Ok tt)) is (λ d. row) n c.enter.ensures.descent came keeps);
+      let keeps : Keeps (Checked (Ok tt)) (asks m.descent.stage) (asks n.stage) n.depth m.above (g.K.Sink.kept c.args.sink.now) c.enter.new.self.above (g.K.Sink.kept c.enter.new.sink) =
+      subst (λ (o : Option Action). Enters o (asks n.stage) n.depth m.above (g.K.Sink.kept c.args.sink.now) c.enter.new.self.above (g.K.Sink.kept c.enter.new.sink)) (sym is) c.enter.ensures.enters in
+      looked_on z k true m c.enter.new.self (g.K.Sink.kept c.args.sink.now) (g.K.Sink.kept c.enter.new.sink) v w asked (Checked (Ok tt)) is (λ d. row) refl
+      (heard z k true m c.enter.new.self (g.K.Sink.kept c.args.sink.now) (g.K.Sink.kept c.enter.new.sink) v w asked (Checked (Ok tt)) is (λ d. row) n c.enter.ensures.descent came keeps);
 }
 
 pub returns-in-Err : goal.returns-in-Err
-returns-in-Err c = record {
+returns-in-Err g c = record {
   looked = λ z k v w at.
       let m = c.args.self.now in
       let n = c.failed.new.self in
@@ -51,12 +51,11 @@ returns-in-Err c = record {
         anew = λ off. c.failed.ensures.steps;
         stays = tt;
         going = ap (λ (d : Descent). ended_at d.stage) c.failed.ensures.start;
-        exact = c.failed.ensures.exact;
         fits = λ what u before. c.failed.ensures.fits z k what u w (check_fails z k what m.descent u v w before c.args.stamp e is row);
       } in
-      let keeps : Keeps (Checked (Err e)) (asks m.descent.stage) (asks n.stage) n.depth m.above c.args.read_set.now m.above c.args.read_set.now =
-      subst (λ (d : Descent). Enters (asks m.descent.stage) (asks d.stage) d.depth m.above c.args.read_set.now m.above c.args.read_set.now) (sym c.failed.ensures.start)
-      (subst (λ (o : Option Action). Enters o (Some (Begin cell.Anchor)) m.descent.depth m.above c.args.read_set.now m.above c.args.read_set.now) (sym is) (refl, refl)) in
-      looked_on z k false m next c.args.read_set.now c.args.read_set.now v w asked (Checked (Err e)) is (λ d. row) refl
-      (heard z k false m next c.args.read_set.now c.args.read_set.now v w asked (Checked (Err e)) is (λ d. row) n refl came keeps);
+      let keeps : Keeps (Checked (Err e)) (asks m.descent.stage) (asks n.stage) n.depth m.above (g.K.Sink.kept c.args.sink.now) m.above (g.K.Sink.kept c.args.sink.now) =
+      subst (λ (d : Descent). Enters (asks m.descent.stage) (asks d.stage) d.depth m.above (g.K.Sink.kept c.args.sink.now) m.above (g.K.Sink.kept c.args.sink.now)) (sym c.failed.ensures.start)
+      (subst (λ (o : Option Action). Enters o (Some (Begin cell.Anchor)) m.descent.depth m.above (g.K.Sink.kept c.args.sink.now) m.above (g.K.Sink.kept c.args.sink.now)) (sym is) (refl, refl)) in
+      looked_on z k false m next (g.K.Sink.kept c.args.sink.now) (g.K.Sink.kept c.args.sink.now) v w asked (Checked (Err e)) is (λ d. row) refl
+      (heard z k false m next (g.K.Sink.kept c.args.sink.now) (g.K.Sink.kept c.args.sink.now) v w asked (Checked (Err e)) is (λ d. row) n refl came keeps);
 }

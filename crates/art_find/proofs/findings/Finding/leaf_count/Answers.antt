@@ -35,13 +35,13 @@ returns-then-bytes-eq0-clause-goes g c =
     let l = c.args.leaf in
     let word = c.read_leaf_word-bytes.result in
     let row = c.read_leaf_word-bytes.ensures.row in
-    let kept = c.args.read_set.now in
+    let kept = (g.K.Sink.kept c.args.sink.now) in
     let here = finding_at c.args.self.now.above b.depth (Length x l c.args.value) in
     let n = c.read_at.new.self in
     let e = c.read_at.ensures in
     came_then k here (moment z v kept c.args.left.now) (record here { descent = n }) (moment (g.S.Steps.sizes s) w kept (c.args.left.now - 1))
     (g.met.S.Steps.only_sizes c.args.steps.now s c.read_leaf_word-bytes.ensures.only) (omega (arith, c.requires.left))
-    (leaf_heard z k v w here n kept x l 1 word refl row (word_came z k v w here.descent n (ReadLeaf x l 1) word refl (λ d. row) e.steps e.stays e.going e.exact e.fits))
+    (leaf_heard z k v w here n kept x l 1 word refl row (word_came z k v w here.descent n (ReadLeaf x l 1) word refl (λ d. row) e.steps e.stays e.going e.fits))
 
 pub returns-clause-goes : goal.returns-clause-goes
 returns-clause-goes g c =
@@ -55,13 +55,13 @@ returns-clause-goes g c =
     let l = c.args.leaf in
     let count = c.read_leaf_word-bytes.result in
     let row = c.read_leaf_word-bytes.ensures.row in
-    let kept = c.args.read_set.now in
+    let kept = (g.K.Sink.kept c.args.sink.now) in
     let seen : LeafSeen = record { stamp = x; leaf = l; value = c.args.value; count = count } in
     let here = finding_at c.args.self.now.above b.depth (Length x l c.args.value) in
     let next = finding_at c.args.self.now.above b.depth (Bytes seen 0 at_first) in
     came_then k here (moment z v kept c.args.left.now) next (moment (g.S.Steps.sizes s) w kept (c.args.left.now - 1))
     (g.met.S.Steps.only_sizes c.args.steps.now s c.read_leaf_word-bytes.ensures.only) (omega (arith, c.requires.left))
-    (heard_on z k v w here next kept kept (ReadLeaf x l 1) (word_told count) refl (λ d. row) refl (omega arith) refl refl tt
+    (heard_on z k v w here next kept kept (ReadLeaf x l 1) (word_told count) refl (λ d. row) refl (omega arith) refl refl
     (λ what u fits. bytes_first z k what b.depth u w fits.1 x l (leaf_on z u v w x 1 count l fits.0 row) c.args.value count (leaf_still z u v w x 1 count l _ row fits.2) (leaf_word z u v w x 1 count l row) (omega (arith, c.if-bytes-eq0.false))
     (omega (arith, c.if-bytes-gt64.false)) seen refl)
     (refl, record { node = refl; above = refl }))

@@ -27,11 +27,11 @@ returns-clause-goes g c =
     let l = c.args.leaf in
     let word = c.read_leaf_word.result in
     let row = c.read_leaf_word.ensures.row in
-    let kept = c.args.read_set.now in
+    let kept = (g.K.Sink.kept c.args.sink.now) in
     let here = finding_at c.args.self.now.above b.depth (Value x l) in
     let next = finding_at c.args.self.now.above b.depth (Length x l word) in
     came_then k here (moment z v kept c.args.left.now) next (moment (g.S.Steps.sizes s) w kept (c.args.left.now - 1))
     (g.met.S.Steps.only_sizes c.args.steps.now s c.read_leaf_word.ensures.only) (omega (arith, c.requires.left))
-    (heard_on z k v w here next kept kept (ReadLeaf x l 0) (word_told word) refl (λ d. row) refl (omega arith) refl refl tt
+    (heard_on z k v w here next kept kept (ReadLeaf x l 0) (word_told word) refl (λ d. row) refl (omega arith) refl refl
     (λ what u fits. (leaf_on z u v w x 0 word l fits.0 row, fits.1.deep, λ t shape holds. record { child = leaf_still z u v w x 0 word l _ row fits.1.shows t shape holds; is_value = leaf_word z u v w x 0 word l row t shape holds }))
     (refl, record { node = refl; above = refl }))

@@ -10,9 +10,9 @@ loop-left-init g c =
     let s = c.first.new in
     let e = c.in-Ok.ensures in
     let here = c.args.self.now in
-    let now = moment (g.S.Steps.sizes c.args.steps.now) (g.S.Steps.view c.args.steps.now) c.args.read_set.now c.args.left.now in
+    let now = moment (g.S.Steps.sizes c.args.steps.now) (g.S.Steps.view c.args.steps.now) (g.K.Sink.kept c.args.sink.now) c.args.left.now in
     let next = finding_below s.self.above c.in-Ok.below in
-    let later = moment (g.S.Steps.sizes s.steps) (g.S.Steps.view s.steps) s.read_set s.left in
+    let later = moment (g.S.Steps.sizes s.steps) (g.S.Steps.view s.steps) (g.K.Sink.kept s.sink) s.left in
     record {
       only = e.only;
       left = e.left;
@@ -29,9 +29,9 @@ loop-left-preserved g c =
     let s = c.pass_link.new in
     let e = c.in-Ok-pass_link.ensures in
     let here = finding_below l.self.above l.below in
-    let now = moment (g.S.Steps.sizes l.steps) (g.S.Steps.view l.steps) l.read_set l.left in
+    let now = moment (g.S.Steps.sizes l.steps) (g.S.Steps.view l.steps) (g.K.Sink.kept l.sink) l.left in
     let next = finding_below s.self.above c.in-Ok-pass_link.next in
-    let later = moment (g.S.Steps.sizes s.steps) (g.S.Steps.view s.steps) s.read_set s.left in
+    let later = moment (g.S.Steps.sizes s.steps) (g.S.Steps.view s.steps) (g.K.Sink.kept s.sink) s.left in
     record {
       only = g.met.S.Steps.only_then c.args.steps.now l.steps s.steps i.only e.only;
       left = e.left;
@@ -46,5 +46,5 @@ returns-in-Err-pass_link-clause-goes g c = λ m a came. c.in-Err-pass_link.ensur
 pub returns-clause-goes : goal.returns-clause-goes
 returns-clause-goes g c = λ m a came.
     let l = c.loop-left in
-    let now = moment (g.S.Steps.sizes l.steps) (g.S.Steps.view l.steps) l.read_set l.left in
-    subst (λ (s : Stage). Came c.args.key.now m a (finding_at l.self.above l.below.depth s) now) (sym c.below.ensures) (l.invariant.goes m a came)
+    let now = moment (g.S.Steps.sizes l.steps) (g.S.Steps.view l.steps) (g.K.Sink.kept l.sink) l.left in
+    subst (λ (s : Stage). Came c.args.key.now m a (finding_at l.self.above l.below.depth s) now) (sym c.below-stage.ensures) (l.invariant.goes m a came)

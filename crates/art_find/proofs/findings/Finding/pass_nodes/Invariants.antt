@@ -9,9 +9,9 @@ invariant-loop-left g l = record {
   only : g.S.Steps.only l.fn.steps l.steps;
   left : 0 < l.left;
   less : l.left ≤ l.fn.left;
-  found : FitsAt l.key (finding_below l.self.above l.below) (moment (g.S.Steps.sizes l.steps) (g.S.Steps.view l.steps) l.read_set l.left);
-  goes : (m : Finding) (a : Moment) → Came l.key m a l.fn.self (moment (g.S.Steps.sizes l.fn.steps) (g.S.Steps.view l.fn.steps) l.fn.read_set l.fn.left)
-      → Came l.key m a (finding_below l.self.above l.below) (moment (g.S.Steps.sizes l.steps) (g.S.Steps.view l.steps) l.read_set l.left);
+  found : FitsAt l.key (finding_below l.self.above l.below) (moment (g.S.Steps.sizes l.steps) (g.S.Steps.view l.steps) (g.K.Sink.kept l.sink) l.left);
+  goes : (m : Finding) (a : Moment) → Came l.key m a l.fn.self (moment (g.S.Steps.sizes l.fn.steps) (g.S.Steps.view l.fn.steps) (g.K.Sink.kept l.fn.sink) l.fn.left)
+      → Came l.key m a (finding_below l.self.above l.below) (moment (g.S.Steps.sizes l.steps) (g.S.Steps.view l.steps) (g.K.Sink.kept l.sink) l.left);
 }
 
 abbrev pub decreases-loop-left : goal.decreases-loop-left

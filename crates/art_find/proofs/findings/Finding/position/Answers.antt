@@ -7,4 +7,4 @@ returns-clause-at c = search rules
 
 pub returns-clause-stands : goal.returns-clause-stands
 returns-clause-stands c z k what read_set u v fits =
-    rw c.depth.ensures (decided_stands z k what c.args.self.now read_set u v _ fits (sym c.decided.ensures ∙ c.in_ok-stamp.was))
+    decided_stands z k what c.args.self.now read_set u v _ fits (sym c.decided.ensures ∙ c.in_ok-stamp.was)

@@ -15,8 +15,8 @@ returns-in_default-clause-goes g c =
     let z = g.S.Steps.sizes c.args.steps.now in
     let v = g.S.Steps.view c.args.steps.now in
     let w = g.S.Steps.view c.read_word-word.new.steps in
-    came_then c.args.key.now (finding_at c.args.self.now.above c.args.self.now.descent.depth (Anchor c.args.stamp)) (moment z v c.args.read_set.now c.args.left.now)
-    c.hear_word.new.self (moment (g.S.Steps.sizes c.read_word-word.new.steps) w c.hear_word.new.read_set (c.args.left.now - 1))
+    came_then c.args.key.now (finding_at c.args.self.now.above c.args.self.now.descent.depth (Anchor c.args.stamp)) (moment z v (g.K.Sink.kept c.args.sink.now) c.args.left.now)
+    c.hear_word.new.self (moment (g.S.Steps.sizes c.read_word-word.new.steps) w (g.K.Sink.kept c.hear_word.new.sink) (c.args.left.now - 1))
     (g.met.S.Steps.only_sizes c.args.steps.now c.read_word-word.new.steps c.read_word-word.ensures.only) (omega (arith, c.requires.left))
     (c.hear_word.ensures.looked z v w c.read_word-word.ensures.row)
 
@@ -29,12 +29,12 @@ returns-clause-goes g c =
     let x = c.args.stamp in
     let word = c.read_word-word.result in
     let row = c.read_word-word.ensures.row in
-    let kept = c.args.read_set.now in
+    let kept = (g.K.Sink.kept c.args.sink.now) in
     let here = finding_at c.args.self.now.above c.args.self.now.descent.depth (Anchor x) in
     let next = finding_at c.args.self.now.above 0 (Child x c.in-Some.link) in
-    came_then k here (moment z v kept c.args.left.now) next (moment (g.S.Steps.sizes c.read_word-word.new.steps) w c.note.new.self (c.args.left.now - 1))
+    came_then k here (moment z v kept c.args.left.now) next (moment (g.S.Steps.sizes c.read_word-word.new.steps) w (g.K.Sink.kept c.note.new.self) (c.args.left.now - 1))
     (g.met.S.Steps.only_sizes c.args.steps.now c.read_word-word.new.steps c.read_word-word.ensures.only) (omega (arith, c.requires.left))
-    (heard_on z k v w here next kept c.note.new.self (Read x 1) (word_told word) refl (λ d. row) refl (omega arith) refl refl tt
+    (heard_on z k v w here next kept (g.K.Sink.kept c.note.new.self) (Read x 1) (word_told word) refl (λ d. row) refl (omega arith) refl refl
     (λ what u fits. root_fits z k what u w x (reads_on u v w (read_rest v w x (Word 1 word) row.is) fits.0) (read_stamp z v w x (Word 1 word) x row.is fits.1) word
     (node_word z u v w x 1 word cell.Anchor fits.2 row) c.in-Some.link fits.2 (node_noted z u v w x 1 word row) (sym c.named_by.ensures ∙ c.in-Some.is))
     (refl, record { node = c.note.ensures.node; above = c.note.ensures.above }))

@@ -3,7 +3,7 @@ use Rattle.art_cell.specs.declared.cells.Cell.TheVariants as cell
 use Rattle.art_cell.specs.Words.{packed}
 use Rattle.art_find.proofs.Counting.{staged_first, staged_going}
 use Rattle.art_find.proofs.NodeWords.{past_prefix}
-use Rattle.art_find.proofs.Passing.{came_then, heard_on, staged_exact, staged_stands}
+use Rattle.art_find.proofs.Passing.{came_now, came_then, found_on, heard_on, staged_stands}
 use Rattle.art_find.proofs.Stages.{node_on, node_still, node_word, staged_fits}
 use Rattle.art_find.specs.Descents.{staged}
 use Rattle.art_find.specs.Nodes.{finding_at, moment}
@@ -18,15 +18,33 @@ use Rattle.art_path.proofs.Comparing.{same_none}
 use Rattle.art_step.specs.Shows.{Shows}
 use Rattle.art_find.proofs.findings.Finding.search.Goals as goal
 
-pub returns-then-read_header-gt0-clause-goes : goal.returns-then-read_header-gt0-clause-goes
-returns-then-read_header-gt0-clause-goes g c =
+pub pass_prefix-found-requires-clause-found : goal.pass_prefix-found-requires-clause-found
+pass_prefix-found-requires-clause-found g c =
     let z = g.S.Steps.sizes c.args.steps.now in
     let v = g.S.Steps.view c.args.steps.now in
     let w = g.S.Steps.view c.read_word-header.new.steps in
-    came_then c.args.key.now (finding_at c.args.self.now.above c.args.depth (Header c.args.stamp c.args.node)) (moment z v c.args.read_set.now c.args.left.now)
-    c.hear_word.new.self (moment (g.S.Steps.sizes c.read_word-header.new.steps) w c.hear_word.new.read_set (c.args.left.now - 1))
+    let k = c.args.key.now in
+    let here = finding_at c.args.self.now.above c.args.depth (Header c.args.stamp c.args.node) in
+    let now = moment z v (g.K.Sink.kept c.args.sink.now) c.args.left.now in
+    let later = moment (g.S.Steps.sizes c.read_word-header.new.steps) w (g.K.Sink.kept c.hear_word.new.sink) (c.args.left.now - 1) in
+    found_on k here now c.hear_word.new.self later
+    (came_then k here now c.hear_word.new.self later
     (g.met.S.Steps.only_sizes c.args.steps.now c.read_word-header.new.steps c.read_word-header.ensures.only) (omega (arith, c.requires.left))
-    (c.hear_word.ensures.looked z v w c.read_word-header.ensures.row)
+    (c.hear_word.ensures.looked z v w c.read_word-header.ensures.row) here now (came_now k here now)) c.requires.found
+
+pub returns-then-read_header-gt0-clause-only : goal.returns-then-read_header-gt0-clause-only
+returns-then-read_header-gt0-clause-only g c = g.met.S.Steps.only_then c.args.steps.now c.read_word-header.new.steps c.pass_prefix-found.new.steps c.read_word-header.ensures.only c.pass_prefix-found.ensures.only
+
+pub returns-then-read_header-gt0-clause-goes : goal.returns-then-read_header-gt0-clause-goes
+returns-then-read_header-gt0-clause-goes g c = λ m a came.
+    let z = g.S.Steps.sizes c.args.steps.now in
+    let v = g.S.Steps.view c.args.steps.now in
+    let w = g.S.Steps.view c.read_word-header.new.steps in
+    c.pass_prefix-found.ensures.goes m a
+    (came_then c.args.key.now (finding_at c.args.self.now.above c.args.depth (Header c.args.stamp c.args.node)) (moment z v (g.K.Sink.kept c.args.sink.now) c.args.left.now)
+    c.hear_word.new.self (moment (g.S.Steps.sizes c.read_word-header.new.steps) w (g.K.Sink.kept c.hear_word.new.sink) (c.args.left.now - 1))
+    (g.met.S.Steps.only_sizes c.args.steps.now c.read_word-header.new.steps c.read_word-header.ensures.only) (omega (arith, c.requires.left))
+    (c.hear_word.ensures.looked z v w c.read_word-header.ensures.row) m a came)
 
 pub returns-clause-goes : goal.returns-clause-goes
 returns-clause-goes g c =
@@ -39,7 +57,7 @@ returns-clause-goes g c =
     let y = c.args.stamp in
     let word = c.read_word-header.result in
     let row = c.read_word-header.ensures.row in
-    let kept = c.args.read_set.now in
+    let kept = (g.K.Sink.kept c.args.sink.now) in
     let seen : NodeSeen = record { stamp = y; node = n; header = word } in
     let r = c.first_word.result in
     let here = finding_at c.args.self.now.above depth (Header y n) in
@@ -47,9 +65,9 @@ returns-clause-goes g c =
     let deep : depth < length k = c.if-depth-key.false in
     let zero : count_in word ≡ 0 = omega (arith, c.if-read_header-gt0.false, c.read_header.ensures.prefix) in
     let small : get_or k depth 0 < 256 = omega (arith, c.type_inv.key depth) in
-    came_then k here (moment z v kept c.args.left.now) next (moment (g.S.Steps.sizes c.read_word-header.new.steps) w c.note.new.self (c.args.left.now - 1))
+    came_then k here (moment z v kept c.args.left.now) next (moment (g.S.Steps.sizes c.read_word-header.new.steps) w (g.K.Sink.kept c.note.new.self) (c.args.left.now - 1))
     (g.met.S.Steps.only_sizes c.args.steps.now c.read_word-header.new.steps c.read_word-header.ensures.only) (omega (arith, c.requires.left))
-    (heard_on z k v w here next kept c.note.new.self (Read y 1) (word_told word) refl (λ d. row) refl (staged_first depth r seen) (staged_stands r seen) (staged_going r seen) (staged_exact r seen)
+    (heard_on z k v w here next kept (g.K.Sink.kept c.note.new.self) (Read y 1) (word_told word) refl (λ d. row) refl (staged_first depth r seen) (staged_stands r seen) (staged_going r seen)
     (λ what u fits.
     let there = node_word z u v w y 1 word (cell.Node n) fits.0.cell row in
     let still = node_still z u v w y 1 word _ row fits.2 in

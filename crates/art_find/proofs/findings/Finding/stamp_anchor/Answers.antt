@@ -26,13 +26,13 @@ returns-in-Ok-clause-goes g c =
     let k = c.args.key.now in
     let x = c.in-Ok.stamp in
     let depth = c.args.self.now.descent.depth in
-    let kept = c.args.read_set.now in
+    let kept = (g.K.Sink.kept c.args.sink.now) in
     let here = finding_at c.args.self.now.above depth Start in
     let next = finding_at None depth (Anchor x) in
     let row = subst (λ (r : Result Stamp Locked). begin.Outcome z v w cell.Anchor r) c.in-Ok.is c.begin.ensures.row in
-    came_then k here (moment z v kept c.args.left.now) next (moment (g.S.Steps.sizes c.begin.new.self) w c.clear.new.self (c.args.left.now - 1))
+    came_then k here (moment z v kept c.args.left.now) next (moment (g.S.Steps.sizes c.begin.new.self) w (g.K.Sink.kept c.clear.new.self) (c.args.left.now - 1))
     (g.met.S.Steps.only_sizes c.args.steps.now c.begin.new.self c.begin.ensures.only) (omega (arith, c.requires.left))
-    (heard_on z k v w here next kept c.clear.new.self (Begin cell.Anchor) (Begun (Ok x)) refl (λ d. row) refl (omega arith) refl refl tt
+    (heard_on z k v w here next kept (g.K.Sink.kept c.clear.new.self) (Begin cell.Anchor) (Begun (Ok x)) refl (λ d. row) refl (omega arith) refl refl
     (λ what u fits. anchor_fits z k what depth u v w x fits row) (refl, record { node = c.clear.ensures.node; above = c.clear.ensures.above }))
 
 pub returns-in_default-clause-goes : goal.returns-in_default-clause-goes
@@ -41,7 +41,7 @@ returns-in_default-clause-goes g c =
     let v = g.S.Steps.view c.args.steps.now in
     let w = g.S.Steps.view c.begin.new.self in
     let k = c.args.key.now in
-    arrives k (finding_at c.args.self.now.above c.args.self.now.descent.depth Start) (moment z v c.args.read_set.now c.args.left.now)
-    c.hear_begun.new.self (moment (g.S.Steps.sizes c.begin.new.self) w c.hear_begun.new.read_set (c.args.left.now - 1))
+    arrives k (finding_at c.args.self.now.above c.args.self.now.descent.depth Start) (moment z v (g.K.Sink.kept c.args.sink.now) c.args.left.now)
+    c.hear_begun.new.self (moment (g.S.Steps.sizes c.begin.new.self) w (g.K.Sink.kept c.hear_begun.new.sink) (c.args.left.now - 1))
     (g.met.S.Steps.only_sizes c.args.steps.now c.begin.new.self c.begin.ensures.only) (omega (arith, c.requires.left))
     c.hear_begun.result (c.hear_begun.ensures.looked z k v w c.begin.ensures.row)
