@@ -14,15 +14,14 @@ ghost use Rattle.art_attempt.specs.Cases.{cells_of, demand_of};
 ghost use Rattle.art_attempt.specs.Rooms.{number_for, spent_by};
 
 use crate::{Cells, Demand, Naming, Reserve, Validate};
-use arrayvec::ArrayVec;
-use art_cell::{Body, Cell, Layout, Node, Pool, Reads, Writes};
+use art_cell::{Body, Cell, Layout, Node, Pool, Reads};
 use art_epoch::Stock;
 use art_find::{Finding, Position, ReadSet, Rereading, Verdict};
-use art_key::{Bound, Key};
-use art_machine::{Action, Answer, Effects};
+use art_key::Key;
+use art_machine::{Action, Answer};
 use art_make::Apply;
-use art_plan::{Bodies, Change, Lower, NewLeaf, OldLeaf, needed};
-use art_step::{Deed, EpochSteps, Sizes};
+use art_plan::{Bodies, Change, Lower, NewLeaf, OldLeaf, blank, needed};
+use art_step::{EpochSteps, Sizes};
 
 /// What a write does.
 #[derive(Clone, Copy)]
@@ -310,15 +309,15 @@ impl Room {
         ensures stock { result.stock ≡ nothing (first_hints sizes.now own) }
     {
         Room {
-            row: no_row(),
-            gone: no_leaf(),
+            row: NewLeaf::new(),
+            gone: OldLeaf::new(),
             sizes: *sizes,
             stock: Stock::new(own, sizes),
             read_set: ReadSet::new(),
             lower: Reads::new(),
             bodies: Bodies::new(),
-            lower_body: no_body(),
-            change: no_change(),
+            lower_body: blank(),
+            change: Change::new(),
         }
     }
 
@@ -357,17 +356,14 @@ impl Room {
     pub(crate) fn spend(&mut self)
         ensures { self.new ≡ record self.old { stock = spent_by self.old.change self.old.stock } }
     {
-        match self.change.effects.leaf {
-            Some(_) => self.stock.spend_leaf(),
-            None => {}
+        if self.change.effects.leaf.is_some() {
+            self.stock.spend_leaf();
         }
-        match self.change.made() {
-            Some(node) => self.stock.spend_node(node.layout),
-            None => {}
+        if let Some(node) = self.change.made() {
+            self.stock.spend_node(node.layout);
         }
-        match self.change.copied() {
-            Some(node) => self.stock.spend_node(node.layout),
-            None => {}
+        if let Some(node) = self.change.copied() {
+            self.stock.spend_node(node.layout);
         }
     }
 }
@@ -379,43 +375,4 @@ fn copied(bytes: &[u8]) -> Key
     ensures same { result.items ≡ bytes.now }
 {
     Key::try_from(bytes).unwrap()
-}
-
-/// No row.
-fn no_row() -> NewLeaf {
-    NewLeaf {
-        number: 0,
-        key: Key::new(),
-        value: 0,
-    }
-}
-
-/// No leaf.
-fn no_leaf() -> OldLeaf {
-    OldLeaf {
-        number: 0,
-        key: Key::new(),
-        value: 0,
-    }
-}
-
-/// A node of no words.
-fn no_body() -> Body {
-    Body {
-        layout: Layout::Node4,
-        words: [0; 266],
-    }
-}
-
-/// No change.
-fn no_change() -> Change {
-    Change {
-        targets: ArrayVec::new(),
-        puts: ArrayVec::new(),
-        writes: Writes::new(),
-        node: None,
-        body: no_body(),
-        copy: None,
-        effects: Effects::telling(Deed::Look(Key::new(), Bound::End, None)),
-    }
 }

@@ -71,14 +71,9 @@ impl Attempt {
         };
         room.row.number = leaf;
         let made = room.number_for(needed(&position.verdict).node);
-        let Room {
-            row,
-            read_set,
-            bodies,
-            change,
-            ..
-        } = room;
-        plan_insert(change, bodies, position, read_set, row, made);
+        let change = &mut room.change;
+        let bodies = &mut room.bodies;
+        plan_insert(change, bodies, position, &room.read_set, &room.row, made);
         self.begin(room);
     }
 
@@ -93,14 +88,9 @@ impl Attempt {
         ensures fits { (z : Sizes) (u v : View) → IsRoom z room.old →
             IsValidating z u self.old.job position.now cases.DropLeaf (validated unchanged) room.old v → Fits z u self.new room.new v }
     {
-        let Room {
-            gone,
-            read_set,
-            bodies,
-            change,
-            ..
-        } = room;
-        plan_drop(change, bodies, position, read_set, gone);
+        let change = &mut room.change;
+        let bodies = &mut room.bodies;
+        plan_drop(change, bodies, position, &room.read_set, &room.gone);
         self.begin(room);
     }
 
@@ -117,14 +107,9 @@ impl Attempt {
             Fits z u self.new room.new v }
     {
         let made = room.number_for(Some(layout));
-        let Room {
-            gone,
-            read_set,
-            bodies,
-            change,
-            ..
-        } = room;
-        plan_shrink(change, bodies, position, read_set, gone, made);
+        let change = &mut room.change;
+        let bodies = &mut room.bodies;
+        plan_shrink(change, bodies, position, &room.read_set, &room.gone, made);
         self.begin(room);
     }
 
@@ -140,14 +125,9 @@ impl Attempt {
             IsValidating z u self.old.job position.now (cases.MergeLeaf other) (validated unchanged) room.old v →
             Fits z u self.new room.new v }
     {
-        let Room {
-            gone,
-            read_set,
-            bodies,
-            change,
-            ..
-        } = room;
-        plan_merge_leaf(change, bodies, position, read_set, gone, other);
+        let change = &mut room.change;
+        let bodies = &mut room.bodies;
+        plan_merge_leaf(change, bodies, position, &room.read_set, &room.gone, other);
         self.begin(room);
     }
 
@@ -163,17 +143,13 @@ impl Attempt {
             IsValidating z u self.old.job position.now (cases.MergeNode child) (validated unchanged) room.old v →
             Fits z u self.new room.new v }
     {
-        let Room {
-            gone,
-            read_set,
-            lower,
-            bodies,
-            lower_body,
-            change,
-            ..
-        } = room;
+        let change = &mut room.change;
+        let bodies = &mut room.bodies;
+        let body = &mut room.lower_body;
+        let read_set = &room.read_set;
+        let (lower, gone) = (&room.lower, &room.gone);
         if !plan_merge_node(
-            change, bodies, lower_body, position, read_set, &child, lower, gone,
+            change, bodies, body, position, read_set, &child, lower, gone,
         ) {
             // the lower node is a third cell, and the joined prefix is short
             unreachable!();
@@ -191,8 +167,7 @@ impl Attempt {
         ensures fits { (z : Sizes) (u v : View) (t : PositionOf) (c : CaseOf) → IsRoom z room.now → EndsWithin z u 22500 room.now v →
             MayMake z u self.old.job t c room.now v → Fits z u self.new room.now v }
     {
-        let apply = Apply::new(&room.change);
-        self.stage = Stage::Apply(apply);
+        self.stage = Stage::Apply(Apply::new(&room.change));
     }
 
     /// What comes next where the change is made.

@@ -94,15 +94,10 @@ impl Attempt {
             unreachable!()
         };
         room.read_set.reread_node(rereading, answer.found());
-        match loss(position, &room.read_set) {
-            Loss::Leaf => {
-                let position = *position;
-                self.validate(room, &position, Case::DropLeaf);
-            }
-            Loss::Shrinks(layout) => {
-                let position = *position;
-                self.supply(room, &position, Case::Shrink(layout));
-            }
+        let position = *position;
+        match loss(&position, &room.read_set) {
+            Loss::Leaf => self.validate(room, &position, Case::DropLeaf),
+            Loss::Shrinks(layout) => self.supply(room, &position, Case::Shrink(layout)),
             Loss::Merges => self.read_on(room),
         }
     }
@@ -184,24 +179,11 @@ impl Attempt {
         };
         match link {
             Link::Leaf(other) => self.validate(room, position, Case::MergeLeaf(other)),
-            Link::Node(node) => self.name(position, byte, node),
+            Link::Node(node) => {
+                let naming = Naming::new(node);
+                self.go_on(position, Part::Naming { byte, node, naming });
+            }
         }
-    }
-
-    /// That node is stamped, and the node that names it is checked.
-    fn name(&mut self, position: &Position, byte: u8, node: Node)
-        requires at { StandsAt position.now self.old.stage }
-        ensures job { self.new.job ≡ self.old.job }
-        ensures not_anew { ended_at self.new ≢ Some anew }
-        ensures not_overlaps { ended_at self.new ≢ Some overlaps }
-        ensures free { is_free self.new ≡ true }
-        ensures fits { (z : Sizes) (u v : View) (r : RoomOf) → IsRoom z r → EndsWithin z u 21700 r v → self.old.job ≡ jobs.Remove →
-            HasLeaf position.now r → IsStanding z r.row.key.items position.now r.read_set v → KnowsHere position.now r.read_set →
-            loss_at position.now r.read_set ≡ losses.Merges → NamesChild position.now r.read_set (node_link node) →
-            LeavesOther z position.now r.read_set r.gone byte (node_link node) → Fits z u self.new r v }
-    {
-        let naming = Naming::new(node);
-        self.go_on(position, Part::Naming { byte, node, naming });
     }
 
     /// What comes next where that node is stamped.

@@ -241,9 +241,8 @@ fn leaf_sought(stock: &mut Stock, taking: Taking) -> Reserve
         Some(_) => return Reserve::Leaf(taking),
         None => {}
     }
-    let link = match spent(taking.number()) {
-        Some(link) => link,
-        None => return Reserve::Ended(Reserved::Full(Pool::Leaves)),
+    let Some(link) = spent(taking.number()) else {
+        return Reserve::Ended(Reserved::Full(Pool::Leaves));
     };
     stock.add_leaf(number_of(link));
     Reserve::LeafWriter(LeafWriter::new())
@@ -324,9 +323,8 @@ fn node_sought(layout: Layout, stock: &mut Stock, taking: Taking) -> Reserve
         Some(_) => return Reserve::Node(taking),
         None => {}
     }
-    let link = match spent(taking.number()) {
-        Some(link) => link,
-        None => return Reserve::Ended(Reserved::Full(pool_of_layout(layout))),
+    let Some(link) = spent(taking.number()) else {
+        return Reserve::Ended(Reserved::Full(pool_of_layout(layout)));
     };
     let number = number_of(link);
     stock.add_node(Node { layout, number });

@@ -156,7 +156,8 @@ impl Attempt {
         self.supplied(room, &position, case, reserved);
     }
 
-    /// The reserve has ended so: all is in hand, and the cells are validated; or a pool gave no number.
+    /// The reserve has ended so: all is in hand, and the cells are validated; or a pool gave no number. Then a leaf that was to come is
+    /// refused, and one that goes does so alone.
     fn supplied(&mut self, room: &Room, position: &Position, case: Case, reserved: Reserved)
         requires at { StandsAt position.now self.old.stage }
         ensures job { self.new.job ≡ self.old.job }
@@ -168,23 +169,10 @@ impl Attempt {
     {
         match reserved {
             Reserved::Ready => self.validate(room, position, case),
-            Reserved::Full(pool) => self.lack(room, position, pool),
-        }
-    }
-
-    /// No number of the pool was found: a leaf that was to come is refused, and one that goes does so alone.
-    fn lack(&mut self, room: &Room, position: &Position, pool: Pool)
-        requires at { StandsAt position.now self.old.stage }
-        ensures job { self.new.job ≡ self.old.job }
-        ensures not_anew { ended_at self.new ≢ Some anew }
-        ensures not_overlaps { ended_at self.new ≢ Some overlaps }
-        ensures free { is_free self.new ≡ true }
-        ensures fits { (z : Sizes) (u v : View) (c : CaseOf) (s : ReserveOf) → IsRoom z room.now →
-            HasSupplies z u self.old.job position.now c s room.now v → reserved_at s ≡ Some (full pool) → Fits z u self.new room.now v }
-    {
-        match self.job {
-            Job::Insert => self.stage = Stage::Ended(Ending::Full(pool)),
-            Job::Remove => self.validate(room, position, Case::DropLeaf),
+            Reserved::Full(pool) => match self.job {
+                Job::Insert => self.stage = Stage::Ended(Ending::Full(pool)),
+                Job::Remove => self.validate(room, position, Case::DropLeaf),
+            },
         }
     }
 
@@ -243,12 +231,8 @@ impl Attempt {
             unreachable!()
         };
         let cells = case.cells(&position.verdict);
-        let Room {
-            read_set,
-            lower,
-            ..
-        } = room;
-        validate.told(position, &cells, read_set, lower, answer);
+        let read_set = &mut room.read_set;
+        validate.told(position, &cells, read_set, &mut room.lower, answer);
         self.validate_on(room);
     }
 
@@ -281,14 +265,10 @@ impl Attempt {
             return;
         };
         let cells = case.cells(&position.verdict);
-        let Room {
-            read_set,
-            lower,
-            ..
-        } = room;
         // a copy of its own stays in registers while it runs
         let mut running = *validate;
-        running.run(steps, position, &cells, read_set, lower, left);
+        let read_set = &mut room.read_set;
+        running.run(steps, position, &cells, read_set, &mut room.lower, left);
         *validate = running;
         self.validate_on(room);
     }

@@ -258,14 +258,10 @@ fn unread(
     ensures whole { IfNone result ((z : Sizes) (k : List ℕ) (u v : View) → Knows z k position.now cells.now read_set.now lower.now u v →
         KnowsWords position.now cells.now read_set.now lower.now role) }
 {
-    let Some(stamp) = cells.stamp(position, role) else {
-        return None;
-    };
+    let stamp = cells.stamp(position, role)?;
     let rereading = Rereading::new(reads_of(role, read_set, lower));
-    match rereading.next(stamp) {
-        Some(_) => Some(rereading),
-        None => None,
-    }
+    rereading.next(stamp)?;
+    Some(rereading)
 }
 
 /// All words of the cell above are known: the cell where the key stands comes next.
@@ -436,15 +432,8 @@ fn header_told(
     };
     let mut rereading = rereading;
     rereading.told(lower, answer.found());
-    let others = read_on(
-        Role::Lower,
-        rereading,
-        stamp,
-        position,
-        cells,
-        read_set,
-        lower,
-    );
+    let role = Role::Lower;
+    let others = read_on(role, rereading, stamp, position, cells, read_set, lower);
     after_header(position, read_set, lower, others)
 }
 

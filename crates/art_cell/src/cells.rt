@@ -34,6 +34,7 @@ pub enum Cell {
 
 impl Link {
     /// The leaf or the node that the child word names, if it names one.
+    #[inline(always)]
     pub fn named_by(word: u64) -> Option<Link>
         ensures { result ≡ link_of word }
     {

@@ -635,7 +635,9 @@ pub struct Stepped {
     pub answer: Answer,
 }
 
-/// Makes the next step of a write: one step, or none where a counter is at its end.
+/// Makes the next step of a write: one step, or none where a counter is at its end. A write that is run makes few steps so, and `finish`
+/// is shorter without it.
+#[inline(never)]
 pub fn step<S: EpochSteps>(
     steps: &mut S,
     write: &mut Write,

@@ -5,6 +5,7 @@ use Rattle.art_find.specs.Driven.{Counts, get_done}
 use Rattle.art_find.specs.Findings.{FindingFits, PlaceFits}
 use Rattle.art_find.specs.Nodes.{Came, CameOff, moment}
 use Rattle.art_find.specs.Straight.{GetGoes}
+use Rattle.art_find.specs.declared.descents.Descent.{Descent}
 use Rattle.art_find.specs.declared.descents.Stage.{Stage}
 use Rattle.art_find.specs.declared.descents.Stage.TheVariants.{Start}
 use Rattle.art_find.specs.declared.findings.Finding.{Finding}
@@ -18,6 +19,11 @@ use Rattle.art_step.specs.declared.views.View.{View}
 -- at its beginning a finding knows what its descent does
 pub starts : (z : Sizes) (k : List ℕ) (m : Finding) (kept : ReadSet) (u v : View) → m.descent.stage ≡ Start → StageFits z k (get_done k) m.descent.depth m.descent.stage u v → FindingFits z k (get_done k) m kept u v
 starts z k m kept u v start fits = record { descent = fits; place = subst (λ (s : Stage). PlaceFits z k m.above kept v (stands_on s)) (sym start) tt }
+
+-- so a get at its beginning may be made from there
+pub from_start : (z : Sizes) (k : List ℕ) (turns : ℕ) (u v : View) (m : Descent) (t : Tally) → m.stage ≡ Start → GetGoes z k turns u v m t
+    → GetGoes z k turns u v (record { depth = m.depth; stage = Start }) t
+from_start z k turns u v m t is before = subst (λ (s : Stage). GetGoes z k turns u v (record { depth = m.depth; stage = s }) t) is before
 
 module _ (z z' : Sizes) (k : List ℕ) (turns : ℕ) (u v w : View) (m n : Finding) (kept kept' : ReadSet) (t t' : Tally) (less : t'.left ≤ t.left) (start : m.descent.stage ≡ Start)
     (before : GetGoes z k turns u v m.descent t) where

@@ -3,6 +3,7 @@ use Rattle.std.specs.Prelude.{◌≡◌, ◌+◌, ℕ, Bool, true, false, List, 
 use Rattle.art_find.specs.Descents.{stage_below, staged}
 use Rattle.art_find.specs.Findings.{CameBack, FindingFits, WentOn}
 use Rattle.art_find.specs.declared.descents.Descent.{Descent}
+use Rattle.art_find.specs.declared.descents.NodeSeen.{NodeSeen}
 use Rattle.art_find.specs.declared.descents.Stage.{Stage}
 use Rattle.art_find.specs.declared.descents.Stage.TheVariants as stage
 use Rattle.art_find.specs.declared.findings.Above.{Above}
@@ -11,6 +12,7 @@ use Rattle.art_find.specs.declared.read_sets.ReadSet.{ReadSet}
 use Rattle.art_find.specs.declared.nodes.Below.{Below}
 use Rattle.art_find.specs.declared.nodes.Child.{Child}
 use Rattle.art_find.specs.declared.nodes.NodeSearch.{NodeSearch}
+use Rattle.art_step.specs.Steps.Read.{Outcome as ReadOutcome}
 use Rattle.art_step.specs.declared.deeds.Deed.{Deed}
 use Rattle.art_step.specs.declared.views.Sizes.{Sizes}
 use Rattle.art_step.specs.declared.views.View.{View}
@@ -52,6 +54,10 @@ LeadsOn at r k n b o c = (m : Finding) (a : Moment) → Came k m a n b → Reach
 -- the finding knows what it should
 abbrev pub FitsAt : List ℕ → Finding → Moment → Type 0
 FitsAt k m a = (what : Option ℕ → Deed) × (u : View) × FindingFits a.sizes k what m a.kept u a.view
+
+-- the header of a node was read, by the last step
+abbrev pub IsHeaderRead : Sizes → View → Sizes → View → NodeSeen → Type 0
+IsHeaderRead z v z' w seen = (z' ≡ z) × ReadOutcome z v w seen.stamp 1 seen.header
 
 -- ---- where it stands, below or on a cell with this one above it
 

@@ -7,7 +7,7 @@ use art_cell::{Cell, Link, Node};
 use art_machine::{Action, Answer};
 use art_node::{Sought, first_word, next_word, read_header};
 use art_path::{Compared, compare_prefix};
-use art_step::Stamp;
+use art_step::{Changed, Stamp};
 
 /// A node that is stamped, and its header.
 #[derive(Clone, Copy)]
@@ -232,13 +232,7 @@ impl Descent {
         match answer {
             Answer::Begun { result: Ok(stamp) } => self.began_at(self.stage, stamp),
             Answer::Word { found } => self.read_at(self.stage, key, found),
-            Answer::Checked { result } => match result {
-                Ok(()) => self.checked_at(self.stage),
-                Err(_) => {
-                    self.failed();
-                    return false;
-                }
-            },
+            Answer::Checked { result } => return self.check_told(self.stage, result),
             Answer::Begun { result: Err(_) } => {
                 self.failed();
                 return false;
@@ -283,6 +277,31 @@ impl Descent {
             Stage::Decided { verdict, .. } => Stage::Ended(verdict.value()),
             _ => unreachable!(),
         };
+    }
+
+    /// The check that it asked for, where it stood at this stage, was made, and found this. Whether it goes on: else it restarts.
+    #[inline(always)]
+    pub fn check_told(&mut self, stage: Stage, checked: Result<(), Changed>) -> bool
+        requires at { self.old.stage ≡ stage }
+        requires wants { WantsCheck (asks stage) }
+        ensures on { result ≡ goes_on (told.Checked checked) }
+        ensures steps { result ≡ true → most_steps self.old.depth self.old.stage < most_steps self.new.depth self.new.stage }
+        ensures anew { result ≡ false → most_steps self.new.depth self.new.stage ≡ 0 }
+        ensures stays { Stays (told.Checked checked) self.old self.new }
+        ensures fits { (z : Sizes) (k : List ℕ) (what : Option ℕ → Deed) (u v w : View) (asked : ActionOf) →
+            Fits z k what self.old u v → asks self.old.stage ≡ Some asked →
+            Answers z (telling (what (answer_at self.old.stage))) asked (told.Checked checked) v w → Fits z k what self.new u w }
+    {
+        match checked {
+            Ok(()) => {
+                self.checked_at(stage);
+                true
+            }
+            Err(_) => {
+                self.failed();
+                false
+            }
+        }
     }
 
     /// A version word was locked, obsolete or changed: the descent restarts.

@@ -289,17 +289,9 @@ impl Finding {
         ensures looked { (z : Sizes) (k : List ℕ) (v w : View) → WasChecked z v w stamp None checked →
             LookedOn z k result self.old (K.kept sink.old) v self.new (K.kept sink.new) w }
     {
-        match checked {
-            Ok(()) => {
-                self.descent.checked_at(stage);
-                self.enter(sink, Some(Action::Check { stamp }));
-                true
-            }
-            Err(_) => {
-                self.descent.failed();
-                false
-            }
-        }
+        let on = self.descent.check_told(stage, checked);
+        self.enter(sink, Some(Action::Check { stamp }));
+        on
     }
 
     /// Keeps what was read by the step that was asked for.

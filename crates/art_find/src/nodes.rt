@@ -10,9 +10,11 @@
 //! that the steps of a node are put together by their contracts alone.
 ghost use Rattle.std.specs.Prelude.{◌≡◌, ◌+◌, ◌*◌, ◌<◌, ◌≤◌, Ok, IfOk, MatchResult, length, true};
 ghost use Rattle.art_find.specs.Compares.{at_first};
-ghost use Rattle.art_find.specs.Nodes.{Arrives, Came, LeadsOn, FitsAt, Moment, descent_search, finding_below, finding_child, finding_search, finding_at, moment};
+ghost use Rattle.art_find.specs.Nodes.{Arrives, Came, LeadsOn, FitsAt, Moment, descent_search, finding_below, finding_child, finding_search, finding_at, moment, IsHeaderRead};
 ghost use Rattle.art_find.specs.declared.descents.Stage.TheVariants as stages;
 ghost use Rattle.art_find.specs.declared.findings.Finding.{Finding as FindingOf};
+ghost use Rattle.art_step.specs.declared.views.Sizes.{Sizes};
+ghost use Rattle.art_step.specs.declared.views.View.{View};
 
 use crate::descents::{Beside, below as below_stage, beside_word};
 use crate::driver::{read_leaf_word, read_word};
@@ -69,6 +71,7 @@ impl Finding {
         ensures only { S.only steps.old steps.new }
         ensures left { 0 < left.new }
         ensures less { left.new ≤ left.old }
+        ensures step { self.old.descent.stage ≡ stages.Start → 8 < left.old → left.new < left.old }
         ensures goes { (m : FindingOf) (a : Moment) →
             Came key.now m a self.old (moment (S.sizes steps.old) (S.view steps.old) (K.kept sink.old) left.old) →
             Arrives result key.now m a self.new (moment (S.sizes steps.new) (S.view steps.new) (K.kept sink.new) left.new) }
@@ -108,6 +111,7 @@ impl Finding {
         ensures only { S.only steps.old steps.new }
         ensures left { 0 < left.new }
         ensures less { left.new ≤ left.old }
+        ensures step { self.old.descent.stage ≡ stages.Start → left.new < left.old }
         ensures goes { LeadsOn (finding_below self.new.above) result key.now self.old
             (moment (S.sizes steps.old) (S.view steps.old) (K.kept sink.old) left.old)
             self.new (moment (S.sizes steps.new) (S.view steps.new) (K.kept sink.new) left.new) }
@@ -237,8 +241,7 @@ impl Finding {
             (moment (S.sizes steps.old) (S.view steps.old) (K.kept sink.old) left.old) }
         ensures only { S.only steps.old steps.new }
         ensures left { 0 < left.new }
-        ensures less { left.new ≤ left.old }
-        ensures further { IfOk result (λ b. left.new < left.old) }
+        ensures less { left.new < left.old }
         ensures goes { LeadsOn (finding_below self.new.above) result key.now
             (finding_below self.old.above below)
             (moment (S.sizes steps.old) (S.view steps.old) (K.kept sink.old) left.old)
@@ -386,27 +389,52 @@ impl Finding {
     {
         *left -= 1;
         let header = read_word(steps, stamp, 1);
-        if read_header(header).prefix_length > 0 || depth >= key.len() {
-            let stage = Stage::Header { stamp, node };
-            self.descent = Descent { depth, stage };
-            self.hear_word(sink, key, stage, stamp, 1, header);
-            // in a copy: whoever else has the place of this one in memory keeps it out of registers
-            let mut passing = *self;
-            let found = passing.pass_prefix(steps, sink, key, left);
-            *self = passing;
-            return found;
-        }
-        sink.note(1, header);
         let seen = NodeSeen {
             stamp,
             node,
             header,
         };
+        if read_header(header).prefix_length > 0 || depth >= key.len() {
+            return self.search_past(steps, sink, key, left, depth, seen);
+        }
+        sink.note(1, header);
         Ok(NodeSearch {
             depth,
             seen,
             sought: first_word(node.layout, key[depth], header),
         })
+    }
+
+    /// The header was read, and tells a prefix, or the key has no byte more: the finding hears it, and goes on behind the prefix. It is
+    /// apart from the search since the stages that it puts in memory would be zeroed at each node.
+    fn search_past<S: Steps, K: Sink>(
+        &mut self,
+        steps: &mut S,
+        sink: &mut K,
+        key: &[u8],
+        left: &mut u32,
+        depth: usize,
+        seen: NodeSeen,
+    ) -> Result<NodeSearch, bool>
+        requires few { length key.now ≤ 64 }
+        requires left { 3 < left.old }
+        requires read { (z : Sizes) × (v : View) × IsHeaderRead z v (S.sizes steps.old) (S.view steps.old) seen ×
+            FitsAt key.now (finding_at self.old.above depth (stages.Header seen.stamp seen.node))
+            (moment z v (K.kept sink.old) (left.old + 1)) }
+        ensures only { S.only steps.old steps.new }
+        ensures left { 3 < left.new }
+        ensures less { left.new ≤ left.old }
+        ensures deep { IfOk result (λ r. r.depth < length key.now) }
+        ensures goes { (z : Sizes) (v : View) → IsHeaderRead z v (S.sizes steps.old) (S.view steps.old) seen →
+            LeadsOn (finding_search self.new.above) result key.now
+            (finding_at self.old.above depth (stages.Header seen.stamp seen.node)) (moment z v (K.kept sink.old) (left.old + 1))
+            self.new (moment (S.sizes steps.new) (S.view steps.new) (K.kept sink.new) left.new) }
+    {
+        let NodeSeen { stamp, node, .. } = seen;
+        let stage = Stage::Header { stamp, node };
+        self.descent = Descent { depth, stage };
+        self.hear_word(sink, key, stage, stamp, 1, seen.header);
+        self.pass_prefix(steps, sink, key, left)
     }
 
     /// Compares what is left of a prefix with the key: where to look for the child of the byte behind it, if the key goes on so.

@@ -13,6 +13,7 @@ pub mod Parts
 mod Pinned
 pub mod SeekEnds
 mod SeekGoes
+mod Settlings
 mod Spelling
 pub mod Stages
 mod Table

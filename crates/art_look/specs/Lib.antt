@@ -6,6 +6,7 @@ pub mod Looks
 pub mod PathBuffers
 pub mod Seeks
 pub mod Seen
+pub mod Settlings
 pub mod Sought
 pub mod Straight
 pub mod Table

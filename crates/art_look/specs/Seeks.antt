@@ -2,6 +2,7 @@
 use Rattle.std.specs.Prelude.{◌≡◌, ℕ, ◌+◌, ◌-◌, ◌<◌, ◌≤◌, List, Bool, true, false, Option, Some, None}
 use Rattle.art_epoch.specs.Pins as pins
 use Rattle.art_epoch.specs.Pins.{MayPin, Pins}
+use Rattle.art_find.specs.Driven.{restarts_after}
 use Rattle.art_machine.specs.declared.actions.Action.{Action}
 use Rattle.art_machine.specs.declared.actions.Action.TheVariants.{StorePin}
 use Rattle.art_key.specs.declared.bounds.Bound.{Bound as KeyBound}
@@ -91,6 +92,10 @@ pub record IsWalking (z : Sizes) (k : List ℕ) (hi : KeyBound) (u : View) (m : 
   pub counted : v.steps + m.left ≡ opened.steps + m.turns
   pub within : m.left ≤ m.turns
   pub few : m.restarts + m.left ≤ 4294967295
+
+-- its walk heard one step more
+abbrev pub heard : Bool → Seek → Seek
+heard on m = record m { left = m.left - 1; restarts = restarts_after m.restarts on }
 
 -- and the walk goes on, with a turn
 pub record GoesOn (z : Sizes) (k : List ℕ) (hi : KeyBound) (u : View) (m : Seek) (t : PathBuffer) (v : View) : Type 0 where

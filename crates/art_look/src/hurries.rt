@@ -6,17 +6,19 @@ ghost use Rattle.std.specs.Prelude.{◌≡◌, ◌≢◌, ◌<◌, ◌≤◌, �
 ghost use Rattle.art_key.specs.declared.bounds.Bound.{Bound as KeyBound};
 ghost use Rattle.art_look.specs.declared.path_buffers.PathBuffer.{PathBuffer as PathBufferOf};
 ghost use Rattle.art_look.specs.Seeks.{GoesTo, IsUnderWay, ended_at, steps_left};
+ghost use Rattle.art_look.specs.Settlings.{StandsAt};
 ghost use Rattle.art_look.specs.Walks.{aim_of};
 ghost use Rattle.art_look.specs.declared.seeks.SeekStage.TheVariants as stages;
 ghost use Rattle.art_look.specs.declared.walks.Aim.TheVariants as aims;
 ghost use Rattle.art_look.specs.declared.walks.Outcome.{Outcome as OutcomeOf};
 
 use crate::driver::make;
+use crate::walks::Settling;
 use crate::{PathBuffer, Seek, SeekStage};
 use art_epoch::{Pinning, unpin};
 use art_find::Tally;
 use art_key::Bound;
-use art_machine::Answer;
+use art_machine::{Action, Answer};
 use art_step::{EpochSteps, Steps};
 
 impl Seek {
@@ -128,11 +130,65 @@ impl Seek {
         ensures less { steps_left self.new < steps_left self.old }
         ensures goes { GoesTo (S.sizes steps.old) key.now hi.now self.old path_buffer.old (S.view steps.old) self.new path_buffer.new (S.view steps.new) }
     {
+        match self.walk.settling() {
+            Some(settling) => self.settle(steps, key, hi, path_buffer, settling),
+            None => self.walk_once(steps, key, hi, path_buffer),
+        }
+    }
+
+    /// Makes the step that its walk asks for. It is seldom made so, and apart: put in place, it had each call save what it needs.
+    #[inline(never)]
+    fn walk_once<S: EpochSteps>(
+        &mut self,
+        steps: &mut S,
+        key: &[u8],
+        hi: &Bound,
+        path_buffer: &mut PathBuffer,
+    )
+        requires short { length key.now ≤ 64 }
+        requires admitted { aim_of self.old.walk ≡ aims.Key → S.admits steps.old key.now }
+        requires stage { self.old.stage ≡ stages.Walking }
+        requires fits { IsUnderWay (S.sizes steps.old) key.now hi.now self.old path_buffer.old (S.view steps.old) }
+        ensures only { S.only steps.old steps.new }
+        ensures less { steps_left self.new < steps_left self.old }
+        ensures goes { GoesTo (S.sizes steps.old) key.now hi.now self.old path_buffer.old (S.view steps.old) self.new path_buffer.new (S.view steps.new) }
+    {
         let Some(action) = self.walk.next() else {
             unreachable!()
         };
         let answer = make(steps, action, &self.walk, key, hi, path_buffer);
         self.walk_told(key, path_buffer, answer);
+    }
+
+    /// Makes the check that settles the answer. What the walk stands at was taken out of it before: behind the check memory is read anew.
+    #[inline(always)]
+    fn settle<S: EpochSteps>(
+        &mut self,
+        steps: &mut S,
+        key: &[u8],
+        hi: &Bound,
+        path_buffer: &PathBuffer,
+        settling: Settling,
+    )
+        requires short { length key.now ≤ 64 }
+        requires admitted { aim_of self.old.walk ≡ aims.Key → S.admits steps.old key.now }
+        requires stage { self.old.stage ≡ stages.Walking }
+        requires stands { StandsAt settling self.old.walk }
+        requires fits { IsUnderWay (S.sizes steps.old) key.now hi.now self.old path_buffer.now (S.view steps.old) }
+        ensures only { S.only steps.old steps.new }
+        ensures less { steps_left self.new < steps_left self.old }
+        ensures goes { GoesTo (S.sizes steps.old) key.now hi.now self.old path_buffer.now (S.view steps.old)
+            self.new path_buffer.now (S.view steps.new) }
+    {
+        let action = Action::Settle {
+            stamp: settling.stamp(),
+        };
+        let Answer::Checked { result } = make(steps, action, &self.walk, key, hi, path_buffer)
+        else {
+            unreachable!()
+        };
+        let on = self.walk.settle_told(settling, result);
+        self.walk_heard(on);
     }
 
     /// The pass goes idle.

@@ -7,17 +7,19 @@ ghost use Rattle.art_look.specs.Looks.{stage_below};
 ghost use Rattle.art_look.specs.declared.looks.LookStage.TheVariants as lookstages;
 ghost use Rattle.art_look.specs.Seen.{bound_at, nearer, row_within};
 ghost use Rattle.art_look.specs.Table.{end_at};
+ghost use Rattle.art_look.specs.Settlings.{LookStandsAt};
 ghost use Rattle.art_step.specs.Deeds.{bound_of, key_of};
 ghost use Rattle.art_tree.specs.Looks.{after};
 
 use crate::PathBuffer;
 use crate::fronts::{Front, front_of};
 use crate::path_buffers::{copied, joined};
+use crate::walks::Settling;
 use art_cell::{Cell, Link, Node};
 use art_find::{LeafSeen, NodeSeen};
 use art_key::{Bound, Key};
 use art_machine::{Action, Answer};
-use art_step::Stamp;
+use art_step::{Changed, Stamp};
 
 /// How far a look sees that ends at a path.
 #[derive(Clone, Copy)]
@@ -229,6 +231,25 @@ impl Look {
         }
     }
 
+    /// What it stands at, if the next check settles what it has seen.
+    #[inline(always)]
+    pub(crate) fn settling(&self) -> Option<Settling>
+        ensures { IfSome result (λ s. LookStandsAt s self.now.stage) }
+    {
+        match self.stage {
+            LookStage::Decided {
+                stamp,
+                reach,
+                value,
+            } => Some(Settling::Range {
+                stamp,
+                reach,
+                value,
+            }),
+            _ => None,
+        }
+    }
+
     /// The step that it asked for was made, with this answer. Whether it goes on: else it restarts.
     #[inline(always)]
     pub fn told(&mut self, lo: &[u8], path_buffer: &mut PathBuffer, answer: Answer) -> bool
@@ -248,13 +269,7 @@ impl Look {
         match answer {
             Answer::Begun { result: Ok(stamp) } => self.began(stamp),
             Answer::Word { found } => self.read(lo, path_buffer, found),
-            Answer::Checked { result } => match result {
-                Ok(()) => self.checked(),
-                Err(_) => {
-                    self.failed();
-                    return false;
-                }
-            },
+            Answer::Checked { result } => return self.check_told(self.stage, result),
             Answer::Begun { result: Err(_) } => {
                 self.failed();
                 return false;
@@ -297,20 +312,6 @@ impl Look {
         };
     }
 
-    /// A version word was unchanged.
-    #[inline(always)]
-    pub fn checked(&mut self)
-        requires { WantsCheck (asks self.old.stage) }
-        ensures going { has_ended self.new.stage ≡ true → IsSettling self.old.stage }
-        ensures steps { most_steps self.old.depth self.old.stage < most_steps self.new.depth self.new.stage }
-        ensures least { least_steps self.new.stage ≤ least_steps self.old.stage + 1 }
-        ensures fits { (z : Sizes) (lo : List ℕ) (hi : KeyBound) (t : PathBufferOf) (u v w : View) (asked : ActionOf) →
-            Fits z lo hi self.old t u v → asks self.old.stage ≡ Some asked →
-            Answers z (telling (deed_at lo hi t self.old.stage)) asked (told.Checked (Ok tt)) v w → Fits z lo hi self.new t u w }
-    {
-        self.checked_at(self.stage);
-    }
-
     /// A version word was unchanged, where the look stood at this stage.
     #[inline(always)]
     pub(crate) fn checked_at(&mut self, stage: LookStage)
@@ -329,6 +330,32 @@ impl Look {
             LookStage::Decided { reach, value, .. } => LookStage::Ended { reach, value },
             _ => unreachable!(),
         };
+    }
+
+    /// The check that it asked for, where it stood at this stage, was made, and found this. Whether it goes on: else it restarts.
+    #[inline(always)]
+    pub(crate) fn check_told(&mut self, stage: LookStage, checked: Result<(), Changed>) -> bool
+        requires at { self.old.stage ≡ stage }
+        requires wants { WantsCheck (asks stage) }
+        ensures on { result ≡ goes_on (told.Checked checked) }
+        ensures going { has_ended self.new.stage ≡ true → IsSettling self.old.stage }
+        ensures steps { result ≡ true → most_steps self.old.depth self.old.stage < most_steps self.new.depth self.new.stage }
+        ensures anew { result ≡ false → most_steps self.new.depth self.new.stage ≡ 0 }
+        ensures least { least_steps self.new.stage ≤ least_steps self.old.stage + 1 }
+        ensures fits { (z : Sizes) (lo : List ℕ) (hi : KeyBound) (t : PathBufferOf) (u v w : View) (asked : ActionOf) →
+            Fits z lo hi self.old t u v → asks self.old.stage ≡ Some asked →
+            Answers z (telling (deed_at lo hi t self.old.stage)) asked (told.Checked checked) v w → Fits z lo hi self.new t u w }
+    {
+        match checked {
+            Ok(()) => {
+                self.checked_at(stage);
+                true
+            }
+            Err(_) => {
+                self.failed();
+                false
+            }
+        }
     }
 
     /// A version word was locked, obsolete or changed: the look restarts.

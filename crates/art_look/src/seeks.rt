@@ -9,7 +9,7 @@ ghost use Rattle.art_key.specs.declared.bounds.Bound.{Bound as KeyBound};
 ghost use Rattle.art_look.specs.Driven.{IsSeen};
 ghost use Rattle.art_look.specs.declared.path_buffers.PathBuffer.{PathBuffer as PathBufferOf};
 ghost use Rattle.art_look.specs.Asking.{restarts_told};
-ghost use Rattle.art_look.specs.Seeks.{Fits, HasSought, IsPinning, IsWalking, WillBeBusy, asks, ended_at, left_at, reached_by, seen_at, steps_left, turns_used};
+ghost use Rattle.art_look.specs.Seeks.{Fits, HasSought, IsPinning, IsWalking, WillBeBusy, asks, ended_at, heard, left_at, reached_by, seen_at, steps_left, turns_used};
 ghost use Rattle.art_look.specs.Walks as walks;
 ghost use Rattle.art_look.specs.Walks.{IsEnd, Settles, aim_of, deed_at};
 ghost use Rattle.art_look.specs.declared.seeks.SeekStage.TheVariants as stages;
@@ -271,8 +271,24 @@ impl Seek {
             Answers z (telling (deed_at self.old.walk key.now hi path_buffer.old)) asked answer v w →
             Fits z key.now hi u self.new path_buffer.new w }
     {
+        let on = self.walk.told(key, path_buffer, answer);
+        self.walk_heard(on);
+    }
+
+    /// Its walk heard a step, and goes on or restarts: that is counted, and the seek goes on, where turns are left, or is over.
+    #[inline(always)]
+    pub(crate) fn walk_heard(&mut self, on: bool)
+        requires turn { 0 < self.old.left }
+        requires few { self.old.restarts + self.old.left ≤ 4294967295 }
+        ensures walk { self.new.walk ≡ self.old.walk }
+        ensures turns { self.new.turns ≡ self.old.turns }
+        ensures restarts { self.new.restarts ≡ restarts_after self.old.restarts on }
+        ensures left { steps_left self.new < left_at stages.Walking self.old }
+        ensures fits { (z : Sizes) (k : List ℕ) (hi : KeyBound) (u w : View) (t : PathBufferOf) →
+            IsWalking z k hi u (heard on self.old) t w → Fits z k hi u self.new t w }
+    {
         self.left -= 1;
-        if !self.walk.told(key, path_buffer, answer) {
+        if !on {
             self.restarts += 1;
         }
         match self.walk.ended() {

@@ -4,21 +4,23 @@ ghost use Rattle.art_find.specs.Asking.{MayLook};
 ghost use Rattle.art_machine.specs.Acting.{Answers, goes_on, telling};
 ghost use Rattle.art_find.specs.Driven.{get_done, restarts_after};
 ghost use Rattle.art_machine.specs.declared.actions.Action.{Action as ActionOf};
+ghost use Rattle.art_machine.specs.declared.actions.Answer.TheVariants as answers;
 ghost use Rattle.art_machine.specs.declared.actions.Action.TheVariants.{Settle as settle_asked};
 ghost use Rattle.art_key.specs.declared.bounds.Bound.{Bound as KeyBound};
 ghost use Rattle.art_look.specs.Looks as looks;
 ghost use Rattle.art_look.specs.declared.path_buffers.PathBuffer.{PathBuffer as PathBufferOf};
 ghost use Rattle.art_look.specs.Walks.{Fits, HasTurns, IsAtStart, Settles, aim_of, asks, deed_at, ended_at, of_value, reached_at};
+ghost use Rattle.art_look.specs.Settlings.{StandsAt, stamp_of};
 ghost use Rattle.art_step.specs.declared.views.Sizes.{Sizes};
-ghost use Rattle.art_step.specs.declared.views.Stamp.{Stamp};
+ghost use Rattle.art_step.specs.declared.views.Stamp.{Stamp as StampOf};
 ghost use Rattle.art_step.specs.declared.views.View.{View};
 
-use crate::{Look, PathBuffer, Reached, look_on};
-use art_find::{Descent, Tally, go_down};
+use crate::{Look, LookStage, PathBuffer, Reach, Reached, look_on};
+use art_find::{Descent, Stage, Tally, Verdict, go_down};
 use art_key::{Bound, Key};
 use art_machine::{Action, Answer};
 use art_model::Answer as Reply;
-use art_step::{Act, Deed, Steps};
+use art_step::{Act, Changed, Deed, Stamp, Steps};
 
 /// What is looked for.
 #[derive(Clone, Copy, Debug, PartialEq, Eq)]
@@ -40,6 +42,31 @@ pub enum Outcome {
     Seen,
     /// All turns were used.
     Busy,
+}
+
+/// What a walk stands at whose answer the next check settles, of a get or of a look.
+#[derive(Clone, Copy)]
+pub(crate) enum Settling {
+    Key {
+        stamp: Stamp,
+        verdict: Verdict,
+    },
+    Range {
+        stamp: Stamp,
+        reach: Reach,
+        value: Option<u64>,
+    },
+}
+
+impl Settling {
+    /// The stamp that is checked.
+    pub(crate) fn stamp(self) -> Stamp
+        ensures { result ≡ stamp_of self }
+    {
+        match self {
+            Settling::Key { stamp, .. } | Settling::Range { stamp, .. } => stamp,
+        }
+    }
 }
 
 /// The machine of either.
@@ -93,6 +120,56 @@ impl Walk {
         match self {
             Walk::Key(descent) => descent.told(key, answer),
             Walk::Range(look) => look.told(key, path_buffer, answer),
+        }
+    }
+
+    /// What it stands at, if the next check settles the answer.
+    #[inline(always)]
+    pub(crate) fn settling(&self) -> Option<Settling>
+        ensures { IfSome result (λ s. StandsAt s self.now) }
+    {
+        match self {
+            Walk::Key(descent) => {
+                let (stamp, verdict) = descent.decided()?;
+                Some(Settling::Key { stamp, verdict })
+            }
+            Walk::Range(look) => look.settling(),
+        }
+    }
+
+    /// The check that settles the answer was made, where it stood at this, and found this. Whether it goes on: else it restarts.
+    #[inline(always)]
+    pub(crate) fn settle_told(&mut self, settling: Settling, checked: Result<(), Changed>) -> bool
+        requires stands { StandsAt settling self.old }
+        ensures on { result ≡ goes_on (answers.Checked checked) }
+        ensures aim { aim_of self.new ≡ aim_of self.old }
+        ensures fits { (z : Sizes) (k : List ℕ) (hi : KeyBound) (t : PathBufferOf) (u v w : View) (n : ℕ) → length k ≤ 64 →
+            Fits z k hi u self.old t n v →
+            Answers z (telling (deed_at self.old k hi t)) (settle_asked (stamp_of settling)) (answers.Checked checked) v w →
+            Fits z k hi u self.new t (restarts_after n (goes_on (answers.Checked checked))) w }
+    {
+        match settling {
+            Settling::Key { stamp, verdict } => {
+                let Walk::Key(descent) = self else {
+                    unreachable!()
+                };
+                descent.check_told(Stage::Decided { stamp, verdict }, checked)
+            }
+            Settling::Range {
+                stamp,
+                reach,
+                value,
+            } => {
+                let Walk::Range(look) = self else {
+                    unreachable!()
+                };
+                let stage = LookStage::Decided {
+                    stamp,
+                    reach,
+                    value,
+                };
+                look.check_told(stage, checked)
+            }
         }
     }
 
@@ -153,7 +230,7 @@ impl Walk {
     #[inline(always)]
     pub(crate) fn deed(&self, key: &[u8], hi: &Bound, path_buffer: &PathBuffer) -> Deed
         requires short { length key.now ≤ 64 }
-        requires settles { (x : Stamp) × (asks self.now ≡ Some (settle_asked x)) }
+        requires settles { (x : StampOf) × (asks self.now ≡ Some (settle_asked x)) }
         ensures { result ≡ deed_at self.now key.now hi.now path_buffer.now }
     {
         match self {
@@ -201,7 +278,7 @@ fn copied(bytes: &[u8]) -> Key
 #[inline(always)]
 fn look_done(look: &Look, lo: &[u8], hi: &Bound, path_buffer: &PathBuffer) -> Deed
     requires short { length lo.now ≤ 64 }
-    requires settles { (x : Stamp) × (looks.asks look.now.stage ≡ Some (settle_asked x)) }
+    requires settles { (x : StampOf) × (looks.asks look.now.stage ≡ Some (settle_asked x)) }
     ensures { result ≡ looks.deed_at lo.now hi.now path_buffer.now look.now.stage }
 {
     let Some(reached) = look.reached() else {

@@ -12,6 +12,7 @@ ghost use Rattle.art_plan.specs.declared.changes.Site.TheVariants.{Slot};
 
 use arrayvec::ArrayVec;
 use art_cell::{Body, Cell, Layout, Node, Reads, Write, Writes};
+use art_key::{Bound, Key};
 use art_machine::Effects;
 use art_node::{plan_add, plan_drop, plan_set};
 use art_step::{Deed, Stamp};
@@ -70,6 +71,23 @@ pub struct Change {
 }
 
 impl Change {
+    /// One that does nothing yet.
+    pub fn new() -> Change
+        ensures locks { result.targets.items ≡ [] }
+        ensures puts { result.puts.items ≡ [] }
+        ensures makes { (result.node ≡ None) × (result.copy ≡ None) }
+    {
+        Change {
+            targets: ArrayVec::new(),
+            puts: ArrayVec::new(),
+            writes: Writes::new(),
+            node: None,
+            body: blank(),
+            copy: None,
+            effects: Effects::telling(Deed::Look(Key::new(), Bound::End, None)),
+        }
+    }
+
     /// The target with an index, if there is one.
     #[inline(always)]
     pub fn target(&self, index: usize) -> Option<Target>
@@ -300,14 +318,20 @@ impl Bodies {
         ensures node { result.node ≡ blank }
         ensures above { result.above ≡ blank }
     {
-        let blank = Body {
-            layout: Layout::Node4,
-            words: [0; 266],
-        };
         Bodies {
-            node: blank,
-            above: blank,
+            node: blank(),
+            above: blank(),
         }
+    }
+}
+
+/// A body with words of 0.
+pub fn blank() -> Body
+    ensures { result ≡ blank }
+{
+    Body {
+        layout: Layout::Node4,
+        words: [0; 266],
     }
 }
 

@@ -77,6 +77,20 @@ pub struct NewLeaf {
     pub value: u64,
 }
 
+impl NewLeaf {
+    /// With the number 0, the key of no bytes and the value 0.
+    pub fn new() -> NewLeaf
+        ensures key { result.key.items ≡ [] }
+        ensures rest { (result.number ≡ 0) × (result.value ≡ 0) }
+    {
+        NewLeaf {
+            number: 0,
+            key: Key::new(),
+            value: 0,
+        }
+    }
+}
+
 /// Where a key parts from what stands at a site.
 #[derive(Clone, Copy)]
 pub(crate) struct Parting {

@@ -61,7 +61,7 @@ mod remove;
 mod renewals;
 
 pub use art_find;
-pub use changes::{Below, Bodies, Change, Put, Site, Target, Twin};
+pub use changes::{Below, Bodies, Change, Put, Site, Target, Twin, blank};
 pub use choose_insert::{Needs, needed, plan_insert};
 pub use choose_remove::{
     Loss, Lower, lost, other_child, plan_drop, plan_merge_leaf, plan_merge_node, plan_shrink,

@@ -90,6 +90,20 @@ pub struct OldLeaf {
     pub value: u64,
 }
 
+impl OldLeaf {
+    /// With the number 0, the key of no bytes and the value 0.
+    pub fn new() -> OldLeaf
+        ensures key { result.key.items ≡ [] }
+        ensures rest { (result.number ≡ 0) × (result.value ≡ 0) }
+    {
+        OldLeaf {
+            number: 0,
+            key: Key::new(),
+            value: 0,
+        }
+    }
+}
+
 /// Makes it the removal of the leaf's key, which locks, writes, makes and unlinks nothing yet.
 pub(crate) fn begin(change: &mut Change, leaf: &OldLeaf)
     ensures { change.new ≡ change_of [] [] change.old.writes.items None change.old.body None [] (removed leaf.now) }

@@ -19,9 +19,9 @@ returns-in-Some c z demand k value u v sizes want none sought =
       stage = (want, none, record { sought = sought; going = (c.in-Some.field-0, is) });
     }
 
-pub returns-in-None-spent : goal.returns-in-None-spent
-returns-in-None-spent c z demand k value u v sizes want none sought =
-    let ended = takes_none z sought.early v c.args.taking.pool c.args.taking.first c.number.result (sym c.spent.ensures ∙ c.in-None-spent.is) (c.number.ensures z sought.early v sought.seeks) in
+pub returns-in_default : goal.returns-in_default
+returns-in_default c z demand k value u v sizes want none sought =
+    let ended = takes_none z sought.early v c.args.taking.pool c.args.taking.first c.number.result (sym c.spent.ensures ∙ c.in_default.is) (c.number.ensures z sought.early v sought.seeks) in
     record {
       sizes = sizes;
       only = sought_none z k value c.args.stock.now u c.args.taking leaves v sought ended;

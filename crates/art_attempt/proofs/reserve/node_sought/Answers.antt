@@ -32,10 +32,10 @@ returns-in-Some-clause-fits c z demand k value u v sizes want none words sought 
       );
     }
 
-pub returns-in-None-spent-clause-fits : goal.returns-in-None-spent-clause-fits
-returns-in-None-spent-clause-fits c z demand k value u v sizes want none words sought =
+pub returns-in_default-clause-fits : goal.returns-in_default-clause-fits
+returns-in_default-clause-fits c z demand k value u v sizes want none words sought =
     let pool = pool_of_layout c.args.layout in
-    let ended = takes_none z sought.early v c.args.taking.pool c.args.taking.first c.number.result (sym c.spent.ensures ∙ c.in-None-spent.is) (c.number.ensures z sought.early v sought.seeks) in
+    let ended = takes_none z sought.early v c.args.taking.pool c.args.taking.first c.number.result (sym c.spent.ensures ∙ c.in_default.is) (c.number.ensures z sought.early v sought.seeks) in
     let fits : Fits z demand k value (Ended (Full pool)) c.args.stock.now u v = record {
       sizes = sizes;
       only = sought_none z k value c.args.stock.now u c.args.taking pool v sought ended;

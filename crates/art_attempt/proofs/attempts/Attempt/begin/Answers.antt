@@ -22,11 +22,11 @@ returns-clause-fits c z u v t case room so may = record {
       plain = may.planned.plain;
       leaf = may.leaf;
       deed = may.deed;
-      fits = c.new-apply.ensures.fits z v (plain_whole z v c.args.room.now.change may.planned) so.still.free;
+      fits = c.new.ensures.fits z v (plain_whole z v c.args.room.now.change may.planned) so.still.free;
     },
-    c.new-apply.ensures.going c.requires,
+    c.new.ensures.going c.requires,
   );
 }
 
 pub returns-clause-free : goal.returns-clause-free
-returns-clause-free c = ap is_begun (c.new-apply.ensures.begun c.requires)
+returns-clause-free c = ap is_begun (c.new.ensures.begun c.requires)

@@ -1,61 +1,35 @@
-use Rattle.std.proofs.Common.{◌≡◌, ◌∙◌, Option, None, true, false, Some, refl, sym, ap, subst}
-use Rattle.std.specs.Prelude.{Result, Ok, Err}
-use Rattle.art_find.specs.Asking.{WantsCheck}
-use Rattle.art_find.specs.Descents.{asks, ended_at}
+use Rattle.std.proofs.Common.{◌∙◌, Option, sym, ap, subst}
+use Rattle.art_find.specs.Descents.{answer_at, asks}
 use Rattle.art_machine.specs.declared.actions.Answer.TheVariants.{Checked}
 use Rattle.art_machine.specs.declared.actions.Action.{Action}
-use Rattle.art_machine.specs.declared.actions.Action.TheVariants.{Begin, Check, Settle}
-use Rattle.art_find.specs.declared.descents.Descent.{Descent}
+use Rattle.art_machine.specs.declared.actions.Action.TheVariants.{Check}
 use Rattle.art_find.specs.declared.descents.Stage.{Stage}
-use Rattle.art_cell.specs.declared.cells.Cell.TheVariants as cell
-use Rattle.art_find.specs.declared.findings.Finding.{Finding}
-use Rattle.art_find.proofs.Hearing.{CameTo, check_fails, checked_going, heard, looked_on}
+use Rattle.art_find.proofs.Hearing.{CameTo, heard, looked_on, told_going}
+use Rattle.art_find.specs.Driven.{get_done}
 use Rattle.art_find.specs.Findings.{Enters, Keeps}
-use Rattle.art_step.specs.Steps.Check as check
-use Rattle.art_step.specs.declared.faults.Changed.{Changed}
 use Rattle.art_find.proofs.findings.Finding.hear_checked.Goals as goal
 
-pub returns-in-Ok : goal.returns-in-Ok
-returns-in-Ok g c = record {
-  looked = λ z k v w at.
+pub returns : goal.returns
+returns g c = record {
+  looked = λ z k v w row.
       let m = c.args.self.now in
-      let n = c.checked_at.new.self in
+      let n = c.check_told-on.new.self in
       let asked = Check c.args.stamp in
+      let answer = Checked c.args.checked in
       let is = ap (λ (s : Stage). asks s) c.requires.at ∙ c.requires.asked in
-      let row = subst (λ (r : Result (Unit {0}) Changed). check.Outcome z v w c.args.stamp None r) c.in-Ok.is at in
-      let came : CameTo z k asked (Checked (Ok tt)) m.descent n v w = record {
-        further = λ on. c.checked_at.ensures.steps;
-        anew = λ off. absurd (cc);
-        stays = c.checked_at.ensures.stays;
-        going = ap (λ (d : Descent). ended_at d.stage) c.checked_at.ensures.stays ∙ checked_going m.descent.stage (subst WantsCheck (sym is) tt) (λ x e. let no : Some (Check c.args.stamp) ≡ Some (Settle x) = sym is ∙ e in cc);
-        fits = λ what u before. c.checked_at.ensures.fits z k what u v w asked before is row;
+      let told = c.check_told-on.ensures in
+      let kept = g.K.Sink.kept c.args.sink.now in
+      let kept' = g.K.Sink.kept c.enter.new.sink in
+      let f = c.enter.new.self in
+      let came : CameTo z k asked answer m.descent n v w = record {
+        further = λ on. told.steps (told.on ∙ on);
+        anew = λ off. told.anew (told.on ∙ off);
+        stays = told.stays;
+        going = told_going z (get_done k (answer_at m.descent.stage)) m.descent n asked answer v w is (λ x e. cc) row told.stays (λ off. told.anew (told.on ∙ off));
+        fits = λ what u before. told.fits z k what u v w asked before is row;
       } in
-      let keeps : Keeps (Checked (Ok tt)) (asks m.descent.stage) (asks n.stage) n.depth m.above (g.K.Sink.kept c.args.sink.now) c.enter.new.self.above (g.K.Sink.kept c.enter.new.sink) =
-      subst (λ (o : Option Action). Enters o (asks n.stage) n.depth m.above (g.K.Sink.kept c.args.sink.now) c.enter.new.self.above (g.K.Sink.kept c.enter.new.sink)) (sym is) c.enter.ensures.enters in
-      looked_on z k true m c.enter.new.self (g.K.Sink.kept c.args.sink.now) (g.K.Sink.kept c.enter.new.sink) v w asked (Checked (Ok tt)) is (λ d. row) refl
-      (heard z k true m c.enter.new.self (g.K.Sink.kept c.args.sink.now) (g.K.Sink.kept c.enter.new.sink) v w asked (Checked (Ok tt)) is (λ d. row) n c.enter.ensures.descent came keeps);
-}
-
-pub returns-in-Err : goal.returns-in-Err
-returns-in-Err g c = record {
-  looked = λ z k v w at.
-      let m = c.args.self.now in
-      let n = c.failed.new.self in
-      let next : Finding = record m { descent = n } in
-      let e = c.in-Err.field-0 in
-      let asked = Check c.args.stamp in
-      let is = ap (λ (s : Stage). asks s) c.requires.at ∙ c.requires.asked in
-      let row = subst (λ (r : Result (Unit {0}) Changed). check.Outcome z v w c.args.stamp None r) c.in-Err.is at in
-      let came : CameTo z k asked (Checked (Err e)) m.descent n v w = record {
-        further = λ on. absurd (cc);
-        anew = λ off. c.failed.ensures.steps;
-        stays = tt;
-        going = ap (λ (d : Descent). ended_at d.stage) c.failed.ensures.start;
-        fits = λ what u before. c.failed.ensures.fits z k what u w (check_fails z k what m.descent u v w before c.args.stamp e is row);
-      } in
-      let keeps : Keeps (Checked (Err e)) (asks m.descent.stage) (asks n.stage) n.depth m.above (g.K.Sink.kept c.args.sink.now) m.above (g.K.Sink.kept c.args.sink.now) =
-      subst (λ (d : Descent). Enters (asks m.descent.stage) (asks d.stage) d.depth m.above (g.K.Sink.kept c.args.sink.now) m.above (g.K.Sink.kept c.args.sink.now)) (sym c.failed.ensures.start)
-      (subst (λ (o : Option Action). Enters o (Some (Begin cell.Anchor)) m.descent.depth m.above (g.K.Sink.kept c.args.sink.now) m.above (g.K.Sink.kept c.args.sink.now)) (sym is) (refl, refl)) in
-      looked_on z k false m next (g.K.Sink.kept c.args.sink.now) (g.K.Sink.kept c.args.sink.now) v w asked (Checked (Err e)) is (λ d. row) refl
-      (heard z k false m next (g.K.Sink.kept c.args.sink.now) (g.K.Sink.kept c.args.sink.now) v w asked (Checked (Err e)) is (λ d. row) n refl came keeps);
+      let keeps : Keeps answer (asks m.descent.stage) (asks n.stage) n.depth m.above kept f.above kept' =
+      subst (λ (o : Option Action). Enters o (asks n.stage) n.depth m.above kept f.above kept') (sym is) c.enter.ensures.enters in
+      looked_on z k c.check_told-on.result m f kept kept' v w asked answer is (λ d. row) told.on
+      (heard z k c.check_told-on.result m f kept kept' v w asked answer is (λ d. row) n c.enter.ensures.descent came keeps);
 }

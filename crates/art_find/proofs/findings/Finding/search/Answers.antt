@@ -1,12 +1,12 @@
-use Rattle.std.proofs.Common.{◌≡◌, ◌<◌, ◌-◌, ℕ, get_or, length, refl, sym, subst, arith}
+use Rattle.std.proofs.Common.{◌≡◌, ◌<◌, ◌+◌, ◌-◌, ℕ, get_or, length, refl, sym, subst, arith}
 use Rattle.art_cell.specs.declared.cells.Cell.TheVariants as cell
 use Rattle.art_cell.specs.Words.{packed}
 use Rattle.art_find.proofs.Counting.{staged_first, staged_going}
 use Rattle.art_find.proofs.NodeWords.{past_prefix}
-use Rattle.art_find.proofs.Passing.{came_now, came_then, found_on, heard_on, staged_stands}
+use Rattle.art_find.proofs.Passing.{came_then, heard_on, staged_stands}
 use Rattle.art_find.proofs.Stages.{node_on, node_still, node_word, staged_fits}
 use Rattle.art_find.specs.Descents.{staged}
-use Rattle.art_find.specs.Nodes.{finding_at, moment}
+use Rattle.art_find.specs.Nodes.{Came, finding_at, moment}
 use Rattle.art_find.specs.Ways.{HasHeader, IsPastPrefix, count_in}
 use Rattle.art_find.specs.declared.descents.NodeSeen.{NodeSeen}
 use Rattle.art_find.specs.declared.descents.Stage.TheVariants.{Header}
@@ -18,33 +18,26 @@ use Rattle.art_path.proofs.Comparing.{same_none}
 use Rattle.art_step.specs.Shows.{Shows}
 use Rattle.art_find.proofs.findings.Finding.search.Goals as goal
 
-pub pass_prefix-found-requires-clause-found : goal.pass_prefix-found-requires-clause-found
-pass_prefix-found-requires-clause-found g c =
-    let z = g.S.Steps.sizes c.args.steps.now in
-    let v = g.S.Steps.view c.args.steps.now in
-    let w = g.S.Steps.view c.read_word-header.new.steps in
-    let k = c.args.key.now in
-    let here = finding_at c.args.self.now.above c.args.depth (Header c.args.stamp c.args.node) in
-    let now = moment z v (g.K.Sink.kept c.args.sink.now) c.args.left.now in
-    let later = moment (g.S.Steps.sizes c.read_word-header.new.steps) w (g.K.Sink.kept c.hear_word.new.sink) (c.args.left.now - 1) in
-    found_on k here now c.hear_word.new.self later
-    (came_then k here now c.hear_word.new.self later
-    (g.met.S.Steps.only_sizes c.args.steps.now c.read_word-header.new.steps c.read_word-header.ensures.only) (omega (arith, c.requires.left))
-    (c.hear_word.ensures.looked z v w c.read_word-header.ensures.row) here now (came_now k here now)) c.requires.found
+pub search_past-requires-clause-read : goal.search_past-requires-clause-read
+search_past-requires-clause-read g c = (
+  g.S.Steps.sizes c.args.steps.now,
+  g.S.Steps.view c.args.steps.now,
+  (g.met.S.Steps.only_sizes c.args.steps.now c.read_word-header.new.steps c.read_word-header.ensures.only, c.read_word-header.ensures.row),
+  c.requires.found,
+)
 
 pub returns-then-read_header-gt0-clause-only : goal.returns-then-read_header-gt0-clause-only
-returns-then-read_header-gt0-clause-only g c = g.met.S.Steps.only_then c.args.steps.now c.read_word-header.new.steps c.pass_prefix-found.new.steps c.read_word-header.ensures.only c.pass_prefix-found.ensures.only
+returns-then-read_header-gt0-clause-only g c = g.met.S.Steps.only_then c.args.steps.now c.read_word-header.new.steps c.search_past.new.steps c.read_word-header.ensures.only c.search_past.ensures.only
 
 pub returns-then-read_header-gt0-clause-goes : goal.returns-then-read_header-gt0-clause-goes
 returns-then-read_header-gt0-clause-goes g c = λ m a came.
     let z = g.S.Steps.sizes c.args.steps.now in
     let v = g.S.Steps.view c.args.steps.now in
-    let w = g.S.Steps.view c.read_word-header.new.steps in
-    c.pass_prefix-found.ensures.goes m a
-    (came_then c.args.key.now (finding_at c.args.self.now.above c.args.depth (Header c.args.stamp c.args.node)) (moment z v (g.K.Sink.kept c.args.sink.now) c.args.left.now)
-    c.hear_word.new.self (moment (g.S.Steps.sizes c.read_word-header.new.steps) w (g.K.Sink.kept c.hear_word.new.sink) (c.args.left.now - 1))
-    (g.met.S.Steps.only_sizes c.args.steps.now c.read_word-header.new.steps c.read_word-header.ensures.only) (omega (arith, c.requires.left))
-    (c.hear_word.ensures.looked z v w c.read_word-header.ensures.row) m a came)
+    let here = finding_at c.args.self.now.above c.args.depth (Header c.args.stamp c.args.node) in
+    let same : c.args.left.now - 1 + 1 ≡ c.args.left.now = omega (arith, c.requires.left) in
+    c.search_past.ensures.goes z v
+    (g.met.S.Steps.only_sizes c.args.steps.now c.read_word-header.new.steps c.read_word-header.ensures.only, c.read_word-header.ensures.row) m a
+    (subst (λ (i : ℕ). Came c.args.key.now m a here (moment z v (g.K.Sink.kept c.args.sink.now) i)) (sym same) came)
 
 pub returns-clause-goes : goal.returns-clause-goes
 returns-clause-goes g c =

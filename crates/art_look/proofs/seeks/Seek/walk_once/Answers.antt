@@ -1,22 +1,14 @@
-use Rattle.std.proofs.Common.{◌≡◌, ◌+◌, ◌≤◌, ◌<◌, ◌∙◌, ℕ, List, inl, sym, subst, arith}
+use Rattle.std.proofs.Common.{◌+◌, ◌≤◌, ◌<◌, ◌∙◌, inl, sym, subst, arith}
 use Rattle.std.specs.Prelude.{IfSome, Option}
 use Rattle.art_machine.proofs.Counting.{look_counts}
+use Rattle.art_look.proofs.Counted.{goes_at}
 use Rattle.art_look.proofs.Parts.{walk_looks}
 use Rattle.art_find.specs.Asking.{MayLook}
 use Rattle.art_machine.specs.declared.actions.Action.{Action}
-use Rattle.art_key.specs.declared.bounds.Bound.{Bound as KeyBound}
-use Rattle.art_look.specs.declared.path_buffers.PathBuffer.{PathBuffer as PathBufferOf}
-use Rattle.art_look.specs.Seeks.{Fits, GoesOn, StageFits, busy_at, left_at, steps_left}
+use Rattle.art_look.specs.Seeks.{busy_at, left_at, steps_left}
 use Rattle.art_look.specs.Walks.{Settles, deed_at}
-use Rattle.art_look.specs.declared.seeks.Seek.{Seek}
 use Rattle.art_look.specs.declared.seeks.SeekStage.{SeekStage}
-use Rattle.art_look.specs.declared.seeks.SeekStage.TheVariants.{Walking}
-use Rattle.art_step.specs.declared.views.Sizes.{Sizes}
-use Rattle.art_step.specs.declared.views.View.{View}
-use Rattle.art_look.proofs.seeks.Seek.walk_by.Goals as goal
-
-goes_at : (z : Sizes) (k : List ℕ) (hi : KeyBound) (u : View) (m : Seek) (t : PathBufferOf) (v : View) → m.stage ≡ Walking → Fits z k hi u m t v → GoesOn z k hi u m t v
-goes_at z k hi u m t v at fits = subst (λ (s : SeekStage). StageFits z k hi u s m t v) at fits
+use Rattle.art_look.proofs.seeks.Seek.walk_once.Goals as goal
 
 pub make-answer-requires-clause-asked : goal.make-answer-requires-clause-asked
 make-answer-requires-clause-asked g c settles = sym c.next.ensures.asks ∙ c.in-Some.is
