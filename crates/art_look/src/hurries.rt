@@ -1,7 +1,7 @@
 //! The straight way of a seek.
 //!
-//! It makes the steps of a seek in their order: those of its pin, then those of its walk as far as nothing stops them, and the close. What
-//! is left to be made one by one is the check that settles the answer, and the last turn.
+//! It makes the steps of a seek in their order: those of its pin, then those of its walk as far as nothing stops them, the check that
+//! settles the answer, and the close. The last turn is left to the machine.
 ghost use Rattle.std.specs.Prelude.{◌≡◌, ◌≢◌, ◌<◌, ◌≤◌, ℕ, List, length, None, Some, true, false};
 ghost use Rattle.art_key.specs.declared.bounds.Bound.{Bound as KeyBound};
 ghost use Rattle.art_look.specs.declared.path_buffers.PathBuffer.{PathBuffer as PathBufferOf};
