@@ -258,6 +258,7 @@ pub enum Case {
 
 impl Case {
     /// What is wanted in hand, where the key stands so.
+    #[inline(always)]
     pub(crate) fn demand(self, sizes: Sizes, verdict: &Verdict) -> Demand
         ensures { result ≡ demand_of sizes self verdict.now }
     {
@@ -270,6 +271,7 @@ impl Case {
     }
 
     /// Which cells are validated beside the one where the key stands.
+    #[inline(always)]
     pub(crate) fn cells(self, verdict: &Verdict) -> Cells
         ensures { result ≡ cells_of self verdict.now }
     {

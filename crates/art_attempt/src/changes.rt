@@ -34,6 +34,7 @@ impl Attempt {
     ghost use Rattle.art_step.specs.declared.deeds.Deed.{Deed};
 
     /// All that is written was seen: the change is planned.
+    #[inline(always)]
     pub(crate) fn plan(&mut self, room: &mut Room, position: &Position, case: Case)
         requires { (z : Sizes) × (u : View) × (v : View) × IsRoom z room.old ×
             IsValidating z u self.old.job position.now case (validated unchanged) room.old v }
@@ -56,6 +57,7 @@ impl Attempt {
     }
 
     /// A leaf comes.
+    #[inline(always)]
     fn plan_new(&mut self, room: &mut Room, position: &Position)
         requires { (z : Sizes) × (u : View) × (v : View) × IsRoom z room.old ×
             IsValidating z u self.old.job position.now cases.NewLeaf (validated unchanged) room.old v }
@@ -158,6 +160,7 @@ impl Attempt {
     }
 
     /// The change is planned, and is made.
+    #[inline(always)]
     fn begin(&mut self, room: &Room)
         requires { 0 < targets room.now.change }
         ensures job { self.new.job ≡ self.old.job }

@@ -146,6 +146,7 @@ impl Attempt {
     }
 
     /// The place of the key was checked.
+    #[inline(always)]
     fn settled(&mut self, room: &mut Room, position: &Position, answer: Answer)
         requires at { StandsAt position.now self.old.stage }
         requires told { (z : Sizes) × (u : View) × (v : View) × (w : View) × (f : FindingOf) × IsRoom z room.old ×
@@ -172,6 +173,7 @@ impl Attempt {
     }
 
     /// The place of a row that comes was checked: the key is there, or begins another, or a leaf may come.
+    #[inline(always)]
     fn enter(&mut self, room: &mut Room, position: &Position)
         requires at { StandsAt position.now self.old.stage }
         requires job { self.old.job ≡ jobs.Insert }

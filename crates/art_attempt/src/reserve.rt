@@ -59,6 +59,7 @@ impl Reserve {
     ghost use Rattle.art_attempt.specs.declared.reserve.Reserved.{Reserved as ReservedOf};
 
     /// At its beginning.
+    #[inline(always)]
     pub(crate) fn new(demand: &Demand, stock: &mut Stock) -> Reserve
         requires { (k : List ℕ) × (value : ℕ) × (u : View) × HasStock demand.now.sizes k value u stock.old }
         ensures keeps { HasLeafWords stock.old → HasLeafWords stock.new }

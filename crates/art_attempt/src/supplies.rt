@@ -51,6 +51,7 @@ impl Attempt {
     }
 
     /// In this case numbers are wanted: they are brought into the hand.
+    #[inline(always)]
     pub(crate) fn supply(&mut self, room: &mut Room, position: &Position, case: Case)
         requires at { StandsAt position.now self.old.stage }
         requires within { (z : Sizes) × (u : View) × (v : View) × IsRoom z room.old × EndsWithin z u 1203 room.old v }
@@ -158,6 +159,7 @@ impl Attempt {
 
     /// The reserve has ended so: all is in hand, and the cells are validated; or a pool gave no number. Then a leaf that was to come is
     /// refused, and one that goes does so alone.
+    #[inline(always)]
     fn supplied(&mut self, room: &Room, position: &Position, case: Case, reserved: Reserved)
         requires at { StandsAt position.now self.old.stage }
         ensures job { self.new.job ≡ self.old.job }
@@ -177,6 +179,7 @@ impl Attempt {
     }
 
     /// What is changed is known: the cells that are written are validated.
+    #[inline(always)]
     pub(crate) fn validate(&mut self, room: &Room, position: &Position, case: Case)
         requires at { StandsAt position.now self.old.stage }
         ensures job { self.new.job ≡ self.old.job }
@@ -300,6 +303,7 @@ impl Attempt {
     }
 
     /// The validation has ended so: all that is written was seen, and the change is planned; or a cell was changed.
+    #[inline(always)]
     fn validated(&mut self, room: &mut Room, position: &Position, case: Case, validated: Validated)
         requires { (z : Sizes) × (u : View) × (v : View) × IsRoom z room.old ×
             IsValidating z u self.old.job position.now case (validate_ended validated) room.old v }

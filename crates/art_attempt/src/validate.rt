@@ -103,6 +103,7 @@ impl Validate {
     ghost use Rattle.art_find.specs.Asking.{MayLook};
 
     /// At its beginning.
+    #[inline(always)]
     pub(crate) fn new(
         position: &Position,
         cells: &Cells,
@@ -123,6 +124,7 @@ impl Validate {
     }
 
     /// The next step, or none where it has ended.
+    #[inline(always)]
     pub(crate) fn next(&self, position: &Position, cells: &Cells) -> Option<Action>
         ensures asks { result ≡ asks position.now cells.now self.now }
         ensures allowed { (z : Sizes) (k : List ℕ) (read_set : ReadSetOf) (lower : List (Option ℕ)) (u v : View) →
@@ -134,6 +136,7 @@ impl Validate {
     }
 
     /// The step that it asked for was made, with this answer.
+    #[inline(always)]
     pub(crate) fn told(
         &mut self,
         position: &Position,
@@ -216,6 +219,7 @@ impl Validate {
     }
 
     /// The next step, by the stage alone.
+    #[inline(always)]
     fn asked(&self, position: &Position, cells: &Cells) -> Option<Action>
         ensures { result ≡ asks position.now cells.now self.now }
     {
@@ -245,6 +249,7 @@ fn reads_of<'a>(role: Role, read_set: &'a ReadSet, lower: &'a Reads) -> &'a Read
 }
 
 /// What is to be read of the cell in this role, if it is validated and a word of it is not known.
+#[inline(always)]
 fn unread(
     role: Role,
     position: &Position,
@@ -265,6 +270,7 @@ fn unread(
 }
 
 /// All words of the cell above are known: the cell where the key stands comes next.
+#[inline(always)]
 fn from_here(position: &Position, cells: &Cells, read_set: &ReadSet, lower: &Reads) -> Validate
     ensures going { ended_at result ≡ None }
     ensures few { steps_left result ≤ 533 }
@@ -282,6 +288,7 @@ fn from_here(position: &Position, cells: &Cells, read_set: &ReadSet, lower: &Rea
 }
 
 /// And so are those of that cell: the node below comes next, and then the checks.
+#[inline(always)]
 fn from_lower(position: &Position, cells: &Cells, read_set: &ReadSet, lower: &Reads) -> Validate
     ensures going { ended_at result ≡ None }
     ensures few { steps_left result ≤ 268 }
@@ -321,6 +328,7 @@ fn from_header(
 }
 
 /// All words of the cell in this role are known.
+#[inline(always)]
 fn from_below(
     role: Role,
     position: &Position,
@@ -343,6 +351,7 @@ fn from_below(
 }
 
 /// The cell in this role is read on, or all its words are known.
+#[inline(always)]
 fn read_on(
     role: Role,
     rereading: Rereading,
@@ -533,6 +542,7 @@ fn read_cell<S: Steps>(
 }
 
 /// The first check, from the top down.
+#[inline(always)]
 fn first_check(position: &Position, cells: &Cells) -> Validate
     ensures { result ≡ first_check (stamp_of position.now cells.now over) }
 {

@@ -52,6 +52,7 @@ impl Caller {
     }
 
     /// Makes a write of what the room has, in so many turns.
+    #[inline(always)]
     fn make_write<S: EpochSteps>(&mut self, steps: &mut S, job: Job, turns: u32) -> WriteOutcome
         requires admitted { S.admits steps.old self.old.room.row.key.items }
         requires caller { IsCaller (S.sizes steps.old) (S.view steps.old) self.old }

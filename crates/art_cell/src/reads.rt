@@ -39,6 +39,7 @@ impl Reads {
     }
 
     /// Forgets all that was read.
+    #[inline(always)]
     pub fn clear(&mut self)
         ensures { self.new ≡ replicate 266 None }
     {
@@ -93,6 +94,7 @@ impl Reads {
     }
 
     /// Each of the first places, so many, gets the word that was read there, or 0. What stands behind them stays.
+    #[inline(always)]
     pub fn copy_to(&self, words: &mut [u64; WORDS], count: usize)
         requires { count ≤ 266 }
         ensures here { (place : ℕ) → place < count → get_or words.new place 0 ≡ unwrap_or (word_read self.now place) 0 }
@@ -104,6 +106,7 @@ impl Reads {
     }
 
     /// Copies so to the places of one word of bits, below the count.
+    #[inline(always)]
     fn copy_group(&self, words: &mut [u64; WORDS], group: usize, count: usize)
         requires some { 64 * group < count }
         requires few { count ≤ 266 }
@@ -120,6 +123,7 @@ impl Reads {
     }
 
     /// Copies so to the first places of one word of bits, so many.
+    #[inline(always)]
     fn copy_first(&self, words: &mut [u64; WORDS], group: usize, count: usize)
         requires group { group < 5 }
         requires few { count ≤ 64 }
@@ -142,6 +146,7 @@ impl Reads {
     }
 
     /// Copies so to the places from one on, before another.
+    #[inline(always)]
     fn copy_each(&self, words: &mut [u64; WORDS], from: usize, to: usize)
         requires { to ≤ 266 }
         ensures below { (place : ℕ) → place < from → get_or words.new place 0 ≡ get_or words.old place 0 }
@@ -155,6 +160,7 @@ impl Reads {
 }
 
 /// Each word from one on, before another, becomes 0.
+#[inline(always)]
 fn clear(words: &mut [u64; WORDS], from: usize, to: usize)
     requires { to ≤ 266 }
     ensures below { (place : ℕ) → place < from → get_or words.new place 0 ≡ get_or words.old place 0 }

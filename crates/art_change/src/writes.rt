@@ -445,6 +445,7 @@ impl Write {
     }
 
     /// Makes the steps of its attempt, stage after stage.
+    #[inline(always)]
     fn try_on<S: EpochSteps>(&mut self, steps: &mut S, room: &mut Room)
         requires stage { (t : AttemptOf) × (self.old.stage ≡ stages.Trying t) }
         requires admitted { S.admits steps.old room.old.row.key.items }

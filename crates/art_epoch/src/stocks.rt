@@ -189,6 +189,7 @@ impl Stock {
     }
 
     /// The first of them: the leaf, and then the nodes in the order in which they were taken.
+    #[inline(always)]
     pub(crate) fn first(&self) -> Option<Link>
         ensures { result ≡ first_in self.now }
     {

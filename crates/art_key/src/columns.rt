@@ -202,6 +202,7 @@ impl Column {
     }
 
     /// Appends the bytes that spell the value at this place.
+    #[inline(always)]
     pub(crate) fn append(self, place: usize, value: &Value, key: &mut Key) -> Result<(), ValueFault>
         requires known { IsColumn self }
         requires room { array_vec_len key.old + width self ≤ 64 }

@@ -13,6 +13,7 @@ use art_model::{Tuple, Value};
 pub type Key = ArrayVec<u8, 64>;
 
 /// The key of the tuple. Where a column is at fault, the first such column is told.
+#[inline(always)]
 pub fn encode(schema: &Schema, tuple: &Tuple) -> Result<Key, ValueFault>
     ensures key { IfOk result (λ key. IsSpelling schema.now tuple.now.items key.items) }
     ensures fault { IfErr result (λ f. tuple_fault schema.now tuple.now.items ≡ Some f) }
@@ -28,6 +29,7 @@ pub fn encode(schema: &Schema, tuple: &Tuple) -> Result<Key, ValueFault>
 }
 
 /// The spellings of the values, one for each column, one after another, into an empty key.
+#[inline(always)]
 fn spell(columns: &[Column], values: &[Value], key: &mut Key) -> Result<(), ValueFault>
     requires empty { key.old.items ≡ [] }
     requires same_length { length columns.now ≡ length values.now }

@@ -7,7 +7,7 @@ ghost use Rattle.art_look.specs.Looks.{stage_below};
 ghost use Rattle.art_look.specs.declared.looks.LookStage.TheVariants as lookstages;
 ghost use Rattle.art_look.specs.Seen.{bound_at, nearer, row_within};
 ghost use Rattle.art_look.specs.Table.{end_at};
-ghost use Rattle.art_look.specs.Settlings.{LookStandsAt};
+ghost use Rattle.art_look.specs.Settlings.{LookStandsAt, look_settling};
 ghost use Rattle.art_step.specs.Deeds.{bound_of, key_of};
 ghost use Rattle.art_tree.specs.Looks.{after};
 
@@ -234,7 +234,8 @@ impl Look {
     /// What it stands at, if the next check settles what it has seen.
     #[inline(always)]
     pub(crate) fn settling(&self) -> Option<Settling>
-        ensures { IfSome result (λ s. LookStandsAt s self.now.stage) }
+        ensures stands { IfSome result (λ s. LookStandsAt s self.now.stage) }
+        ensures all { result ≡ look_settling self.now.stage }
     {
         match self.stage {
             LookStage::Decided {

@@ -10,7 +10,7 @@ ghost use Rattle.art_key.specs.declared.bounds.Bound.{Bound as KeyBound};
 ghost use Rattle.art_look.specs.Looks as looks;
 ghost use Rattle.art_look.specs.declared.path_buffers.PathBuffer.{PathBuffer as PathBufferOf};
 ghost use Rattle.art_look.specs.Walks.{Fits, HasTurns, IsAtStart, Settles, aim_of, asks, deed_at, ended_at, of_value, reached_at};
-ghost use Rattle.art_look.specs.Settlings.{StandsAt, stamp_of};
+ghost use Rattle.art_look.specs.Settlings.{StandsAt, settling_of, stamp_of};
 ghost use Rattle.art_step.specs.declared.views.Sizes.{Sizes};
 ghost use Rattle.art_step.specs.declared.views.Stamp.{Stamp as StampOf};
 ghost use Rattle.art_step.specs.declared.views.View.{View};
@@ -126,7 +126,8 @@ impl Walk {
     /// What it stands at, if the next check settles the answer.
     #[inline(always)]
     pub(crate) fn settling(&self) -> Option<Settling>
-        ensures { IfSome result (λ s. StandsAt s self.now) }
+        ensures stands { IfSome result (λ s. StandsAt s self.now) }
+        ensures all { result ≡ settling_of self.now }
     {
         match self {
             Walk::Key(descent) => {

@@ -8,7 +8,9 @@ use Rattle.art_cell.specs.declared.cells.Link.TheVariants.{Node as node}
 use Rattle.art_cell.specs.declared.cells.Node.{Node}
 use Rattle.art_plan.specs.Changes.{OnlyLocks, leaf_linked, put_at, target_at, targets, unlinked}
 use Rattle.art_plan.specs.Whole.{HoldsWhole, IsWhole, filled_ends, made_at, made_word}
+use Rattle.art_machine.specs.Acting.{Answers}
 use Rattle.art_machine.specs.declared.actions.Action.{Action}
+use Rattle.art_machine.specs.declared.actions.Answer.{Answer}
 use Rattle.art_machine.specs.declared.actions.Action.TheVariants.{Upgrade, Claim, Write, Commit, Release}
 use Rattle.art_machine.specs.declared.actions.Effects.{Effects}
 use Rattle.art_plan.specs.declared.changes.Change.{Change}
@@ -172,6 +174,11 @@ pub record Runs (m m' : Apply) (v w : View) (left left' : ℕ) : Type 0 where
 -- it has ended, or no cell is locked and one turn is left
 abbrev pub HasRun : Apply → ℕ → Type 0
 HasRun m left = ((r : Result ⊤ UpgradeFault) × (ended_at m ≡ Some r)) ⊎ ((is_begun m ≡ true) × (left ≡ 1))
+
+-- it asks for nothing, or its step was made and answered so
+abbrev pub Makes : Sizes → Change → Apply → Option Answer → View → View → Type 0
+Makes z c m None v w = (asks c m ≡ None) × (w ≡ v)
+Makes z c m (Some answer) v w = (asked : Action) × (asks c m ≡ Some asked) × Answers z (brings c) asked answer v w
 
 -- ---- what it knows, of a pass that had the view u when the change was planned
 

@@ -54,7 +54,7 @@ impl Apply {
     ghost use Rattle.art_machine.specs.Acting.{Answers, IsAllowed};
     ghost use Rattle.art_plan.specs.Whole.{IsWhole};
     ghost use Rattle.std.specs.Prelude.{Err};
-    ghost use Rattle.art_make.specs.Apply.{Fits, HasRun, IsOver, Runs, asks, ended_at, brings, fault_of, is_begun, most_steps};
+    ghost use Rattle.art_make.specs.Apply.{Fits, HasRun, IsOver, Makes, Runs, asks, ended_at, brings, fault_of, is_begun, most_steps};
     ghost use Rattle.art_step.specs.Deeds.{IsAdmitted};
     ghost use Rattle.art_machine.specs.declared.actions.Answer.TheVariants.{Upgraded as upgraded};
     ghost use Rattle.art_machine.specs.declared.actions.Action.{Action as ActionOf};
@@ -135,16 +135,49 @@ impl Apply {
                 *left = left.saturating_sub(written);
                 continue;
             }
-            let Some(asked) = self.next(change) else {
-                return;
-            };
             if self.is_begun() && *left <= 1 {
                 return;
             }
-            let answer = perform(steps, asked, Some(&change.effects));
+            let Some(answer) = self.make(steps, change) else {
+                return;
+            };
             *left = left.saturating_sub(answer.steps());
             self.told(change, answer);
         }
+    }
+
+    /// Makes the step that it asks for, or none where it has ended.
+    #[inline(always)]
+    fn make<S: EpochSteps>(&self, steps: &mut S, change: &Change) -> Option<Answer>
+        requires admitted { IsAdmitted (S.admits steps.old) change.now.effects.deed }
+        requires fits { (u : View) × Fits (S.sizes steps.old) change.now self.now u (S.view steps.old) }
+        ensures only { S.only steps.old steps.new }
+        ensures made { Makes (S.sizes steps.old) change.now self.now result (S.view steps.old) (S.view steps.new) }
+    {
+        // each step is made where it is chosen: an action that is handed on costs more than the step
+        let effects = Some(&change.effects);
+        let answer = match *self {
+            Apply::Upgrading(index) => {
+                let stamp = change.target(index)?.stamp;
+                perform(steps, Action::Upgrade { stamp }, effects)
+            }
+            Apply::Claiming(copy) => {
+                let node = change.made_at(copy)?;
+                perform(steps, Action::Claim { node }, effects)
+            }
+            Apply::Committing => {
+                let top = change.target(0)?;
+                let (cell, obsolete) = (top.stamp.cell, top.obsolete);
+                perform(steps, Action::Commit { cell, obsolete }, effects)
+            }
+            Apply::Releasing(index) => {
+                let target = change.target(index)?;
+                let (cell, obsolete) = (target.stamp.cell, target.obsolete);
+                perform(steps, Action::Release { cell, obsolete }, effects)
+            }
+            _ => perform(steps, self.asked(change)?, effects),
+        };
+        Some(answer)
     }
 
     /// Whether no cell was locked yet.

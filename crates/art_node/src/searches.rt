@@ -68,6 +68,7 @@ pub fn first_word(layout: Layout, byte: u8, header: u64) -> Sought
 
 /// Where to look next, by the word of key bytes or of the index with this number, once those before it that were asked
 /// for were read.
+#[inline(always)]
 pub fn next_word(layout: Layout, byte: u8, header: u64, number: u8, word: u64) -> Sought
     requires { number < 32 }
     ensures tells { SoughtTells layout byte (IsNextWord layout byte header number word) result }
@@ -98,6 +99,7 @@ pub fn first_word_from(layout: Layout, low: u8, header: u64) -> SoughtFrom
 
 /// Where to look next, by the word of key bytes or of the index with this number, once those before it that were asked
 /// for were read.
+#[inline(always)]
 pub fn next_word_from(layout: Layout, low: u8, header: u64, number: u8, word: u64) -> SoughtFrom
     requires { number < 32 }
     ensures tells { SoughtFromTells layout low (IsNextWordFrom layout low header number word) result }

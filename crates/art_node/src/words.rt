@@ -120,6 +120,7 @@ pub fn leaf_word(key: &[u8], value: u64, place: usize) -> u64
 }
 
 /// The eight bytes from one on as a word, with 0 after the last.
+#[inline(always)]
 pub(crate) fn key_word(key: &[u8], from: usize) -> u64
     requires { from ≤ 64 }
     ensures { result ≡ word_of_bytes key.now from }

@@ -14,6 +14,7 @@ use art_cell::{Body, Entry, Write, Writes};
 
 /// Makes the writes the words by which the byte, which has none, gets this child. False, with nothing changed, where each position
 /// is in use.
+#[inline(always)]
 pub fn plan_add(sorted: Sorted, body: &Body, byte: u8, child: u64, writes: &mut Writes) -> bool
     requires body { IsBodyOf (layout_of sorted) body.now }
     requires free { child_of (layout_of sorted) (word_of body.now) byte ≡ None }
@@ -55,6 +56,7 @@ pub fn plan_set(sorted: Sorted, body: &Body, byte: u8, child: u64, writes: &mut 
 }
 
 /// Makes the writes the words by which the byte, which has a child, has none.
+#[inline(always)]
 pub fn plan_drop(sorted: Sorted, body: &Body, byte: u8, writes: &mut Writes)
     requires body { IsBodyOf (layout_of sorted) body.now }
     requires there { (c : ℕ) × (child_of (layout_of sorted) (word_of body.now) byte ≡ Some c) }

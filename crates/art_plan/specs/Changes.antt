@@ -9,7 +9,9 @@ use Rattle.art_cell.specs.declared.cells.Cell.TheVariants as cell
 use Rattle.art_cell.specs.declared.cells.Link.{Link}
 use Rattle.art_cell.specs.declared.cells.Link.TheVariants.{Node as node}
 use Rattle.art_cell.specs.declared.cells.Node.{Node}
+use Rattle.art_key.specs.declared.bounds.Bound.TheVariants.{End}
 use Rattle.art_machine.specs.Acting as effects
+use Rattle.art_machine.specs.declared.actions.Effects.{Effects}
 use Rattle.art_plan.specs.declared.changes.Change.{Change}
 use Rattle.art_plan.specs.declared.changes.Put.{Put}
 use Rattle.art_plan.specs.declared.changes.Target.{Target}
@@ -19,6 +21,7 @@ use Rattle.art_step.specs.Steps.Release.{IsNodeAmong}
 use Rattle.art_step.specs.Steps.Upgrade.{AgreesWithNotes}
 use Rattle.art_step.specs.Views.{IsWordOf, IsInLimbo, IsNotInHand, Member, cell_named, note_of, size_of, words_in}
 use Rattle.art_step.specs.WordPlaces.{HasVersion, IsInside}
+use Rattle.art_step.specs.declared.deeds.Deed.TheVariants.{Look}
 use Rattle.art_step.specs.declared.views.Fact.TheVariants.{Starts}
 use Rattle.art_step.specs.declared.views.Holding.{Holding}
 use Rattle.art_step.specs.declared.views.InHand.{InHand}
@@ -26,6 +29,10 @@ use Rattle.art_step.specs.declared.views.Sizes.{Sizes}
 use Rattle.art_step.specs.declared.views.View.{View}
 
 -- ---- the parts of a change
+
+-- before it is planned: a look that finds no row, with no leaf that comes and none that leaves
+abbrev pub no_effects : Effects
+no_effects = effects.tells (Look (record { items = [] }) End None)
 
 -- the target with an index, from the top down, if there is one
 abbrev pub target_at : Change → ℕ → Option Target

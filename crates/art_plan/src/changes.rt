@@ -1,7 +1,7 @@
 //! What a change does, as values, and what it goes by: the words of the cells that it writes, and where its child words stand.
 ghost use Rattle.std.specs.Prelude.{◌≡◌, ◌+◌, ◌-◌, ◌^◌, ◌<◌, ◌≤◌, ◌∷◌, ◌++◌, ℕ, [], None, Some, get_or, length, slice_index};
 ghost use Rattle.art_cell.specs.Reads.{word_of, most_writes};
-ghost use Rattle.art_plan.specs.Changes.{node_made, put_at, target_at};
+ghost use Rattle.art_plan.specs.Changes.{no_effects, node_made, put_at, target_at};
 ghost use Rattle.art_plan.specs.Whole.{made_at, made_word, node_copied};
 ghost use Rattle.art_plan.specs.Puts.{change_of, puts_of, IsDropPlan, IsFree, IsSitePlan, IsTaken};
 ghost use Rattle.art_plan.specs.Seen.{site_stamp};
@@ -76,6 +76,7 @@ impl Change {
         ensures locks { result.targets.items ≡ [] }
         ensures puts { result.puts.items ≡ [] }
         ensures makes { (result.node ≡ None) × (result.copy ≡ None) }
+        ensures effects { result.effects ≡ no_effects }
     {
         Change {
             targets: ArrayVec::new(),
@@ -336,6 +337,7 @@ pub fn blank() -> Body
 }
 
 /// Fills the body with the words of the cell that were read, if it is a node. What stands behind those of its layout stays.
+#[inline(always)]
 pub(crate) fn fill(body: &mut Body, cell: Cell, reads: &Reads)
     ensures { IsFilled cell reads.now body.new }
 {

@@ -83,6 +83,7 @@ pub struct Needs {
 }
 
 /// What an insert needs where its key stands so.
+#[inline(always)]
 pub fn needed(verdict: &Verdict) -> Needs
     ensures { result ≡ needs_of verdict.now }
 {

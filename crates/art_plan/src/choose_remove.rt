@@ -216,6 +216,7 @@ fn is_child(layout: Layout, word: u64, reads: &Reads) -> bool
 
 /// The leaf goes, and the cell that names it stays: the anchor, or a node that keeps two children. All words of the cell were read
 /// and checked.
+#[inline(always)]
 pub fn plan_drop(
     change: &mut Change,
     bodies: &mut Bodies,

@@ -114,6 +114,7 @@ pub(crate) fn begin(change: &mut Change, leaf: &OldLeaf)
 }
 
 /// The leaf goes from the site: the anchor, or a byte of a node that keeps two children.
+#[inline(always)]
 pub(crate) fn drop(change: &mut Change, site: &Site, old: &OldLeaf)
     requires taken { IsTaken site.now }
     requires two { KeepsTwo site.now }

@@ -1,14 +1,15 @@
 -- Each step is one that the making asks for, and each is further on.
-use Rattle.std.proofs.Common.{◌≡◌, ◌∙◌, ◌+◌, ◌-◌, ◌<◌, ◌≤◌, ℕ, List, Some, None, inl, inr, refl, sym, ap, subst, true, false, arith}
+use Rattle.std.proofs.Common.{◌≡◌, ◌∙◌, ◌<◌, ℕ, List, Some, None, inl, refl, sym, ap, subst, true, false, arith}
 use Rattle.std.proofs.lemmas.Bool.{ne_eqb}
 use Rattle.std.specs.Prelude.{Option, Result, ⊤}
 use Rattle.art_machine.proofs.Counting.{steps_few, steps_made}
-use Rattle.art_machine.specs.Acting.{Answers, IsAllowed}
+use Rattle.art_machine.specs.Acting.{Answers}
 use Rattle.art_machine.specs.declared.actions.Action.{Action}
-use Rattle.art_make.proofs.Keeping.{answer_keeps, keeps_then, nothing_keeps, writes_keep}
+use Rattle.art_machine.specs.declared.actions.Answer.{Answer}
+use Rattle.art_make.proofs.Keeping.{answer_keeps, keeps_then, writes_keep}
 use Rattle.art_make.proofs.Told.{allowed, few_steps, going}
 use Rattle.art_make.proofs.Written.{few_words_left, some_words, writes_steps}
-use Rattle.art_make.specs.Apply.{Fits, HasRun, asks, brings, ended_at, fault_of, is_begun, is_writing, most_steps}
+use Rattle.art_make.specs.Apply.{Fits, HasRun, Makes, Runs, asks, brings, ended_at, fault_of, is_begun, is_writing, most_steps}
 use Rattle.art_make.specs.declared.apply.Apply.{Apply}
 use Rattle.art_make.specs.declared.apply.Apply.TheVariants.{Upgrading, Claiming, Filling, Writing, Committing, Releasing, ReleasingNode, GivingUp, Ended}
 use Rattle.art_plan.specs.declared.changes.Change.{Change}
@@ -61,48 +62,71 @@ writing_unfailing (ReleasingNode b) on e at = absurd (cc)
 writing_unfailing (GivingUp locked released f) on e at = absurd (cc)
 writing_unfailing (Ended r) on e at = absurd (cc)
 
+-- the step was made that was asked for
+made_next : (z : Sizes) (c : Change) (m : Apply) (o : Option Answer) (answer : Answer) (v w : View) → Makes z c m o v w → o ≡ Some answer →
+    (asked : Action) × (asks c m ≡ Some asked) × Answers z (brings c) asked answer v w
+made_next z c m o answer v w made is = subst (λ (p : Option Answer). Makes z c m p v w) is made
+
+-- or nothing was
+made_none : (z : Sizes) (c : Change) (m : Apply) (o : Option Answer) (v w : View) → Makes z c m o v w → o ≡ None →
+    (asks c m ≡ None) × (w ≡ v)
+made_none z c m o v w made is = subst (λ (p : Option Answer). Makes z c m p v w) is made
+
 -- what asks for nothing has ended
-pub returns-in_default-clause-last : goal.returns-in_default-clause-last
-returns-in_default-clause-last g c = by_end (ended_at c.loop-self.self) refl
+pub returns-in_default : goal.returns-in_default
+returns-in_default g c =
+    let z = g.S.Steps.sizes c.args.steps.now in
+    let o = g.S.Steps.view c.args.steps.now in
+    let v = g.S.Steps.view c.loop-self.steps in
+    let w = g.S.Steps.view c.make.new.steps in
+    let i = c.loop-self.invariant in
+    let m = c.loop-self.self in
+    let change = c.args.change.now in
+    let none = made_none (g.S.Steps.sizes c.loop-self.steps) change m c.make.result v w c.make.ensures.made c.in_default.is in
+    record {
+      only = g.met.S.Steps.only_then c.args.steps.now c.loop-self.steps c.make.new.steps i.only c.make.ensures.only;
+      runs = subst (λ (y : View). Runs c.args.self.now m o y c.args.left.now c.loop-self.left) (sym none.1) i.runs;
+      last = by_end (ended_at m) refl;
+      fits = λ u fits. subst (λ (y : View). Fits z change m u y) (sym none.1) (i.fits u fits);
+    }
   where
-    by_end : (o : Option (Result ⊤ UpgradeFault)) → ended_at c.loop-self.self ≡ o → HasRun c.loop-self.self c.loop-self.left
+    by_end : (r : Option (Result ⊤ UpgradeFault)) → ended_at c.loop-self.self ≡ r → HasRun c.loop-self.self c.loop-self.left
     by_end (Some r) is = inl (r, is)
     by_end None is =
         let i = c.loop-self.invariant in
-        let more = c.next.ensures.going (g.S.Steps.sizes c.args.steps.now) i.here.0 (g.S.Steps.view c.loop-self.steps) i.here.1 is in
-        let no = sym c.in_default.is ∙ more.1 in
+        let none = made_none (g.S.Steps.sizes c.loop-self.steps) c.args.change.now c.loop-self.self c.make.result (g.S.Steps.view c.loop-self.steps)
+        (g.S.Steps.view c.make.new.steps) c.make.ensures.made c.in_default.is in
+        let more = going (g.S.Steps.sizes c.args.steps.now) i.here.0 (g.S.Steps.view c.loop-self.steps) c.args.change.now c.loop-self.self i.here.1 is in
+        let not = sym none.0 ∙ more.1 in
         absurd (cc)
 
-pub perform-answer-requires-clause-allowed : goal.perform-answer-requires-clause-allowed
-perform-answer-requires-clause-allowed g c =
-    let i = c.loop-self.invariant in
-    let v = g.S.Steps.view c.loop-self.steps in
-    let change = c.args.change.now in
-    subst (λ (y : Sizes). IsAllowed y (brings change) v c.in-Some.asked) (sym i.sizes)
-    (allowed (g.S.Steps.sizes c.args.steps.now) i.here.0 v change c.loop-self.self c.in-Some.asked i.here.1 (sym c.next.ensures.asks ∙ c.in-Some.is))
-
-pub perform-answer-requires-clause-admitted : goal.perform-answer-requires-clause-admitted
-perform-answer-requires-clause-admitted g c =
+pub make-requires : goal.make-requires
+make-requires g c =
     let s = c.args.steps.now in
     let t = c.loop-self.steps in
-    let only = c.loop-self.invariant.only in
-    still_admitted (g.S.Steps.admits s) (g.S.Steps.admits t) (λ k. (g.met.S.Steps.only_admits s t k only).1) c.args.change.now.effects.deed c.requires.admitted
+    let i = c.loop-self.invariant in
+    let change = c.args.change.now in
+    record {
+      admitted = still_admitted (g.S.Steps.admits s) (g.S.Steps.admits t) (λ k. (g.met.S.Steps.only_admits s t k i.only).1) change.effects.deed c.requires.admitted;
+      fits = (i.here.0, subst (λ (y : Sizes). Fits y change c.loop-self.self i.here.0 (g.S.Steps.view t)) (sym i.sizes) i.here.1);
+    }
 
 pub told-requires : goal.told-requires
 told-requires g c =
     let z = g.S.Steps.sizes c.args.steps.now in
     let v = g.S.Steps.view c.loop-self.steps in
-    let w = g.S.Steps.view c.perform-answer.new.steps in
+    let w = g.S.Steps.view c.make.new.steps in
     let i = c.loop-self.invariant in
     let change = c.args.change.now in
-    let row = subst (λ (y : Sizes). Answers y (brings change) c.in-Some.asked c.perform-answer.result v w) i.sizes c.perform-answer.ensures.row in
-    record { fits = (z, i.here.0, v, w, c.in-Some.asked, i.here.1, sym c.next.ensures.asks ∙ c.in-Some.is, row) }
+    let made = made_next (g.S.Steps.sizes c.loop-self.steps) change c.loop-self.self c.make.result c.in-Some.answer v w c.make.ensures.made c.in-Some.is in
+    let row = subst (λ (y : Sizes). Answers y (brings change) made.0 c.in-Some.answer v w) i.sizes made.2 in
+    record { fits = (z, i.here.0, v, w, made.0, i.here.1, made.1, row) }
 
 pub loop-self-preserved : goal.loop-self-preserved
 loop-self-preserved g c =
     let s = c.args.steps.now in
     let t = c.loop-self.steps in
-    let t' = c.perform-answer.new.steps in
+    let t' = c.make.new.steps in
     let z = g.S.Steps.sizes s in
     let o = g.S.Steps.view s in
     let v = g.S.Steps.view t in
@@ -111,22 +135,25 @@ loop-self-preserved g c =
     let m = c.loop-self.self in
     let m' = c.told.new.self in
     let change = c.args.change.now in
-    let is = sym c.next.ensures.asks ∙ c.in-Some.is in
-    let row : Answers z (brings change) c.in-Some.asked c.perform-answer.result v w = subst (λ (y : Sizes). Answers y (brings change) c.in-Some.asked c.perform-answer.result v w) i.sizes c.perform-answer.ensures.row in
-    let may = allowed z i.here.0 v change m c.in-Some.asked i.here.1 is in
-    let one = steps_made z (brings change) c.in-Some.asked c.perform-answer.result v w may row in
-    let few = steps_few c.perform-answer.result in
-    let keeps = answer_keeps z i.here.0 v w change m c.in-Some.asked c.perform-answer.result i.here.1 is row in
+    let answer = c.in-Some.answer in
+    let made = made_next (g.S.Steps.sizes t) change m c.make.result answer v w c.make.ensures.made c.in-Some.is in
+    let asked = made.0 in
+    let is = made.1 in
+    let row : Answers z (brings change) asked answer v w = subst (λ (y : Sizes). Answers y (brings change) asked answer v w) i.sizes made.2 in
+    let may = allowed z i.here.0 v change m asked i.here.1 is in
+    let one = steps_made z (brings change) asked answer v w may row in
+    let few = steps_few answer in
+    let keeps = answer_keeps z i.here.0 v w change m asked answer i.here.1 is row in
     let before = i.runs.turns in
     let so_far = i.runs.few in
     let since = i.runs.keeps.steps in
     let taken = c.saturating_sub-in-loop-self.ensures in
     let count = c.steps.ensures in
     let more = c.told.ensures.steps in
-    let on : (u : View) → Fits z change m u v → Fits z change m' u w = λ u fits. c.told.ensures.fits z u v w c.in-Some.asked fits is row in
+    let on : (u : View) → Fits z change m u v → Fits z change m' u w = λ u fits. c.told.ensures.fits z u v w asked fits is row in
     record {
-      only = g.met.S.Steps.only_then s t t' i.only c.perform-answer.ensures.only;
-      sizes = g.met.S.Steps.only_sizes t t' c.perform-answer.ensures.only ∙ i.sizes;
+      only = g.met.S.Steps.only_then s t t' i.only c.make.ensures.only;
+      sizes = g.met.S.Steps.only_sizes t t' c.make.ensures.only ∙ i.sizes;
       runs = record {
         keeps = keeps_then o v w i.runs.keeps keeps;
         turns = omega (arith, before, taken, count, one, since);
@@ -143,10 +170,12 @@ loop-self-smaller g c =
     let z = g.S.Steps.sizes c.args.steps.now in
     let i = c.loop-self.invariant in
     let v = g.S.Steps.view c.loop-self.steps in
+    let w = g.S.Steps.view c.make.new.steps in
     let m = c.loop-self.self in
     let change = c.args.change.now in
     let more = c.told.ensures.steps in
-    let low = few_steps z i.here.0 v change m i.here.1 (still_going change m c.in-Some.asked (sym c.next.ensures.asks ∙ c.in-Some.is)) in
+    let made = made_next (g.S.Steps.sizes c.loop-self.steps) change m c.make.result c.in-Some.answer v w c.make.ensures.made c.in-Some.is in
+    let low = few_steps z i.here.0 v change m i.here.1 (still_going change m made.0 made.1) in
     omega (arith, more, low)
 
 -- ---- the words that are left are written
