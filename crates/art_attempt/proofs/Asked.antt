@@ -29,12 +29,12 @@ use Rattle.art_attempt.specs.declared.validate.Cells.{Cells}
 use Rattle.art_attempt.specs.declared.validate.Role.TheVariants.{Lower}
 use Rattle.art_attempt.specs.declared.validate.Validate.{Validate}
 use Rattle.art_attempt.specs.declared.validate.Validate.TheVariants as checks
-use Rattle.art_machine.proofs.Counting.{look_counts, steps_made}
-use Rattle.art_machine.specs.Acting.{Answers, IsAllowed, IsLook, steps_in, telling}
-use Rattle.art_machine.specs.declared.actions.Action.{Action}
-use Rattle.art_machine.specs.declared.actions.Action.TheVariants.{Begin, Read, Check, WriteLeaf, ClearBit}
-use Rattle.art_machine.specs.declared.actions.Answer.{Answer}
-use Rattle.art_machine.specs.declared.actions.Answer.TheVariants.{Begun, Word, Checked, Upgraded, Done}
+use Rattle.art_step.proofs.Counting.{look_counts, steps_made}
+use Rattle.art_step.specs.Acting.{Answers, IsAllowed, IsLook, steps_in, telling}
+use Rattle.art_step.specs.declared.actions.Action.{Action}
+use Rattle.art_step.specs.declared.actions.Action.TheVariants.{Begin, Read, Check, WriteLeaf, ClearBit}
+use Rattle.art_step.specs.declared.actions.Answer.{Answer}
+use Rattle.art_step.specs.declared.actions.Answer.TheVariants.{Begun, Word, Checked, Upgraded, Done}
 use Rattle.art_step.specs.Steps.Begin as begin
 use Rattle.art_step.specs.Steps.Check as check
 use Rattle.art_step.specs.Deeds.{key_of}

@@ -40,12 +40,12 @@ use Rattle.art_attempt.specs.declared.validate.Validate.{Validate}
 use Rattle.art_attempt.specs.declared.validate.Validate.TheVariants as checks
 use Rattle.art_attempt.specs.declared.validate.Validated.{Validated}
 use Rattle.art_attempt.specs.declared.validate.Validated.TheVariants.{Unchanged, Changed}
-use Rattle.art_machine.proofs.Counting.{Counted, look_counts}
-use Rattle.art_machine.specs.Acting.{Answers, goes_on, telling}
-use Rattle.art_machine.specs.declared.actions.Action.{Action}
-use Rattle.art_machine.specs.declared.actions.Answer.{Answer}
-use Rattle.art_make.proofs.PackedLeaves.{packed_leaf}
-use Rattle.art_make.specs.LeafWriter.{IsPacked}
+use Rattle.art_step.proofs.Counting.{Counted, look_counts}
+use Rattle.art_step.specs.Acting.{Answers, goes_on, telling}
+use Rattle.art_step.specs.declared.actions.Action.{Action}
+use Rattle.art_step.specs.declared.actions.Answer.{Answer}
+use Rattle.art_epoch.proofs.PackedLeaves.{packed_leaf}
+use Rattle.art_epoch.specs.LeafWriter.{IsPacked}
 use Rattle.art_plan.specs.ChooseInsert.Needs.{needs_of}
 use Rattle.art_plan.specs.ChooseInsert.Plans.{HasNeeded, IsLockedAt, LocksOnly}
 use Rattle.art_plan.specs.ChooseInsert.Seen.{IsSeen as IsSeenWhole, WasVouched}

@@ -17,7 +17,7 @@ use Rattle.art_plan.specs.declared.choose_remove.Loss.{Loss}
 use Rattle.art_plan.specs.declared.choose_remove.Loss.TheVariants as loss
 use Rattle.art_attempt.specs.Trying.{StillTries, StoodAtCheck, at_check}
 use Rattle.art_attempt.specs.declared.attempts.Room.{Room}
-use Rattle.art_make.specs.Apply.{KeepsCheck}
+use Rattle.art_plan.specs.Apply.{KeepsCheck}
 use Rattle.art_attempt.proofs.LastCheck.{none_stays, stood_stays}
 use Rattle.art_attempt.specs.Reserve.{StayFound}
 use Rattle.art_attempt.specs.Attempts.{GoesBy, IsExhausted, IsKnown, WantsNumbers}

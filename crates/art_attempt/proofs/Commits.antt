@@ -18,11 +18,11 @@ use Rattle.art_cell.specs.declared.cells.Node.{Node}
 use Rattle.art_find.specs.declared.findings.Position.{Position}
 use Rattle.art_epoch.proofs.Stocked.{linked_are_in, stock_commits}
 use Rattle.art_epoch.specs.Stocks.{IsIn}
-use Rattle.art_machine.specs.declared.actions.Effects.{Effects}
-use Rattle.art_make.proofs.Told.{ends_as}
-use Rattle.art_make.specs.Apply as apply
-use Rattle.art_make.specs.Apply.{HasFailed, IsOver, KeepsCheck}
-use Rattle.art_make.specs.declared.apply.Apply.{Apply}
+use Rattle.art_step.specs.declared.actions.Effects.{Effects}
+use Rattle.art_plan.proofs.Told.{ends_as}
+use Rattle.art_plan.specs.Apply as apply
+use Rattle.art_plan.specs.Apply.{HasFailed, IsOver, KeepsCheck}
+use Rattle.art_plan.specs.declared.apply.Apply.{Apply}
 use Rattle.art_model.specs.declared.commands.Answer.TheVariants as reply
 use Rattle.art_plan.specs.Changes.{IsPlanned, node_made, targets}
 use Rattle.art_plan.specs.ChooseInsert.Plans.{LocksOnly}

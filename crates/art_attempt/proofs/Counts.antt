@@ -4,7 +4,7 @@ use Rattle.std.proofs.lemmas.Option.{same_Some}
 use Rattle.art_attempt.proofs.Finds.{finding_allowed}
 use Rattle.art_attempt.proofs.Given.{ask_looks, look_once, look_row, made_row, plain_row, supply_once, supply_plain}
 use Rattle.art_attempt.proofs.Asked.{if_some, naming_asks_look, reads_look, supply_asks_supply, validate_asks_look}
-use Rattle.art_make.proofs.Keeping.{asks_made}
+use Rattle.art_plan.proofs.Keeping.{asks_made}
 use Rattle.art_attempt.specs.Asking.{Answers, given}
 use Rattle.art_attempt.specs.Attempts.{Fits, PartFits, StageFits, asks, asks_at, deed_at, deed_by, part_asks}
 use Rattle.art_attempt.specs.Cases.{cells_of, demand_of}
@@ -27,16 +27,16 @@ use Rattle.art_attempt.specs.Reserve.{Fits as SupplyFits}
 use Rattle.art_attempt.specs.declared.reserve.Reserve.{Reserve}
 use Rattle.art_attempt.specs.declared.reserve.Reserve.TheVariants as at
 use Rattle.art_attempt.specs.declared.reserve.Demand.{Demand}
-use Rattle.art_machine.proofs.Counting.{look_counts, steps_made, taking_counts}
-use Rattle.art_machine.specs.Acting as acting
-use Rattle.art_machine.specs.Acting.{IsLook, steps_in}
-use Rattle.art_machine.specs.declared.actions.Action.{Action}
-use Rattle.art_machine.specs.declared.actions.Action.TheVariants.{ClearBit}
-use Rattle.art_machine.specs.declared.actions.Answer.{Answer}
-use Rattle.art_machine.specs.declared.actions.Answer.TheVariants.{Begun, Word, Checked, Upgraded, Done}
-use Rattle.art_make.proofs.Told.{allowed}
-use Rattle.art_make.specs.Apply as apply
-use Rattle.art_make.specs.declared.apply.Apply.{Apply}
+use Rattle.art_step.proofs.Counting.{look_counts, steps_made, taking_counts}
+use Rattle.art_step.specs.Acting as acting
+use Rattle.art_step.specs.Acting.{IsLook, steps_in}
+use Rattle.art_step.specs.declared.actions.Action.{Action}
+use Rattle.art_step.specs.declared.actions.Action.TheVariants.{ClearBit}
+use Rattle.art_step.specs.declared.actions.Answer.{Answer}
+use Rattle.art_step.specs.declared.actions.Answer.TheVariants.{Begun, Word, Checked, Upgraded, Done}
+use Rattle.art_plan.proofs.Told.{allowed}
+use Rattle.art_plan.specs.Apply as apply
+use Rattle.art_plan.specs.declared.apply.Apply.{Apply}
 use Rattle.art_plan.specs.declared.changes.Change.{Change as ChangeOf}
 use Rattle.art_step.specs.declared.deeds.Deed.{Deed}
 use Rattle.art_step.specs.declared.views.Sizes.{Sizes}

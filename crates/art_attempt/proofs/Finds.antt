@@ -32,15 +32,15 @@ use Rattle.art_find.specs.declared.descents.Stage.TheVariants.{Start, Anchor, Ch
 use Rattle.art_find.specs.declared.descents.Verdict.{Verdict}
 use Rattle.art_find.specs.declared.descents.Verdict.TheVariants.{Found, Empty, LeafMismatch, PrefixMismatch, NoChild, Overlaps, Torn}
 use Rattle.art_epoch.proofs.Stocked.{stock_same}
-use Rattle.art_machine.proofs.AnswerKinds.{answers_plain, finds_word}
-use Rattle.art_machine.specs.Acting.{Answers, IsLook, IsPlain, goes_on, passed, telling}
-use Rattle.art_machine.specs.declared.actions.Action.{Action}
-use Rattle.art_machine.specs.declared.actions.Action.TheVariants.{Begin, Read, ReadLeaf, Check, Settle, Upgrade, Claim, Write, WriteLeaf, Commit, Release}
-use Rattle.art_machine.specs.declared.actions.Action.TheVariants.{ClearBit, GiveBack, ReadEpoch, StorePin, RaiseEpoch, ReadPin}
-use Rattle.art_machine.specs.declared.actions.Action.TheVariants as action
-use Rattle.art_machine.specs.declared.actions.Answer.{Answer}
-use Rattle.art_machine.specs.declared.actions.Answer.TheVariants.{Begun, Word, Checked, Upgraded, Done}
-use Rattle.art_make.proofs.Told.{map_some}
+use Rattle.art_step.proofs.AnswerKinds.{answers_plain, finds_word}
+use Rattle.art_step.specs.Acting.{Answers, IsLook, IsPlain, goes_on, passed, telling}
+use Rattle.art_step.specs.declared.actions.Action.{Action}
+use Rattle.art_step.specs.declared.actions.Action.TheVariants.{Begin, Read, ReadLeaf, Check, Settle, Upgrade, Claim, Write, WriteLeaf, Commit, Release}
+use Rattle.art_step.specs.declared.actions.Action.TheVariants.{ClearBit, GiveBack, ReadEpoch, StorePin, RaiseEpoch, ReadPin}
+use Rattle.art_step.specs.declared.actions.Action.TheVariants as action
+use Rattle.art_step.specs.declared.actions.Answer.{Answer}
+use Rattle.art_step.specs.declared.actions.Answer.TheVariants.{Begun, Word, Checked, Upgraded, Done}
+use Rattle.art_plan.proofs.Told.{map_some}
 use Rattle.art_find.proofs.FoundPlaces.{standing_grows}
 use Rattle.art_find.proofs.Keeping.{passed_grows}
 use Rattle.art_find.specs.Findings.{FindingFits, IsPlaced, IsStanding, PlaceFits, position_at, position_of}

@@ -7,7 +7,7 @@ use Rattle.art_attempt.proofs.Numbers.{supplies_so}
 use Rattle.art_attempt.proofs.Finds.{ends_reading, within_so}
 use Rattle.art_attempt.proofs.Tries.{later_first, still_later}
 use Rattle.art_attempt.specs.Attempts.{EndsSo, HasMade, IsFinding, IsReadingOn, PartFits, StageFits, ending_at, free_at}
-use Rattle.art_make.specs.Apply.{is_begun}
+use Rattle.art_plan.specs.Apply.{is_begun}
 use Rattle.art_attempt.specs.Trying.{StillTries}
 use Rattle.art_attempt.specs.declared.attempts.Attempt.{Attempt}
 use Rattle.art_attempt.specs.declared.attempts.Job.{Job}
@@ -21,10 +21,10 @@ use Rattle.art_find.specs.declared.findings.Finding.{Finding}
 use Rattle.art_find.specs.declared.findings.Position.{Position}
 use Rattle.art_find.specs.declared.read_sets.Rereading.{Rereading}
 use Rattle.art_epoch.proofs.Stocked.{stock_same}
-use Rattle.art_make.specs.Apply as apply
-use Rattle.art_make.specs.Apply.{IsLocking, so_many}
-use Rattle.art_make.specs.declared.apply.Apply.{Apply}
-use Rattle.art_make.specs.declared.apply.Apply.TheVariants.{Upgrading, Claiming, Filling, Writing, Committing, Releasing, ReleasingNode, GivingUp, Ended}
+use Rattle.art_plan.specs.Apply as apply
+use Rattle.art_plan.specs.Apply.{IsLocking, so_many}
+use Rattle.art_plan.specs.declared.apply.Apply.{Apply}
+use Rattle.art_plan.specs.declared.apply.Apply.TheVariants.{Upgrading, Claiming, Filling, Writing, Committing, Releasing, ReleasingNode, GivingUp, Ended}
 use Rattle.art_plan.specs.Changes.{IsTarget}
 use Rattle.art_plan.specs.Whole.{IsNewBy}
 use Rattle.art_plan.specs.declared.changes.Change.{Change}

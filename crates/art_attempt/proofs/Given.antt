@@ -2,16 +2,16 @@
 use Rattle.std.proofs.Common.{◌≡◌, Option, Some, None, refl, subst}
 use Rattle.art_attempt.specs.Asking.{Answers, IsAllowed, MayAsk, given}
 use Rattle.art_attempt.proofs.Asked.{IsSupply}
-use Rattle.art_machine.proofs.AnswerKinds.{answers_any}
-use Rattle.art_machine.specs.Acting as acting
-use Rattle.art_machine.specs.Acting.{IsLook, IsPlain, steps_in, telling}
-use Rattle.art_machine.specs.declared.actions.Action.{Action}
-use Rattle.art_machine.specs.declared.actions.Action.TheVariants.{Begin, Read, ReadLeaf, Check, Settle, Upgrade, Claim, Write, WriteLeaf, Commit, Release, ClearBit, GiveBack, Free, ReadEpoch, StorePin, RaiseEpoch, ReadPin}
-use Rattle.art_machine.specs.declared.actions.Answer.{Answer}
-use Rattle.art_machine.specs.declared.actions.Answer.TheVariants.{Begun, Word, Checked, Upgraded, Done}
-use Rattle.art_machine.specs.declared.actions.Effects.{Effects}
-use Rattle.art_make.proofs.Keeping.{IsMade}
-use Rattle.art_make.specs.Apply as apply
+use Rattle.art_step.proofs.AnswerKinds.{answers_any}
+use Rattle.art_step.specs.Acting as acting
+use Rattle.art_step.specs.Acting.{IsLook, IsPlain, steps_in, telling}
+use Rattle.art_step.specs.declared.actions.Action.{Action}
+use Rattle.art_step.specs.declared.actions.Action.TheVariants.{Begin, Read, ReadLeaf, Check, Settle, Upgrade, Claim, Write, WriteLeaf, Commit, Release, ClearBit, GiveBack, Free, ReadEpoch, StorePin, RaiseEpoch, ReadPin}
+use Rattle.art_step.specs.declared.actions.Answer.{Answer}
+use Rattle.art_step.specs.declared.actions.Answer.TheVariants.{Begun, Word, Checked, Upgraded, Done}
+use Rattle.art_step.specs.declared.actions.Effects.{Effects}
+use Rattle.art_plan.proofs.Keeping.{IsMade}
+use Rattle.art_plan.specs.Apply as apply
 use Rattle.art_plan.specs.declared.changes.Change.{Change as ChangeOf}
 use Rattle.art_step.specs.declared.deeds.Deed.{Deed}
 use Rattle.art_step.specs.declared.views.Sizes.{Sizes}

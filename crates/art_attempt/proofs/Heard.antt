@@ -14,9 +14,9 @@ use Rattle.art_attempt.specs.declared.attempts.Stage.TheVariants.{Finding, Ended
 use Rattle.art_attempt.specs.declared.attempts.Room.{Room}
 use Rattle.art_find.proofs.Counting.{asks_look}
 use Rattle.art_find.proofs.Stages.{still_reading}
-use Rattle.art_machine.specs.Acting.{Answers, IsLook, goes_on, telling}
-use Rattle.art_machine.specs.declared.actions.Action.{Action}
-use Rattle.art_machine.specs.declared.actions.Answer.{Answer}
+use Rattle.art_step.specs.Acting.{Answers, IsLook, goes_on, telling}
+use Rattle.art_step.specs.declared.actions.Action.{Action}
+use Rattle.art_step.specs.declared.actions.Answer.{Answer}
 use Rattle.art_find.specs.Findings.{CameBack, HasHeard, WasLooked, WentOn}
 use Rattle.art_find.specs.declared.read_sets.ReadSet.{ReadSet}
 use Rattle.art_find.specs.declared.findings.Finding.{Finding as FindingOf}

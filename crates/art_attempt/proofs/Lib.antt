@@ -1,7 +1,6 @@
 -- the crates below, for those above to name
 pub use Rattle.art_plan.proofs as ArtPlan
 pub use Rattle.art_epoch.proofs as ArtEpoch
-pub use Rattle.art_make.proofs as ArtMake
 pub use Rattle.art_find.proofs as ArtFind
 pub mod Asked
 pub mod CaseCells

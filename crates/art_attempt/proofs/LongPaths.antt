@@ -32,11 +32,11 @@ use Rattle.art_attempt.specs.declared.validate.Role.TheVariants.{Above, Here, Lo
 use Rattle.art_attempt.specs.declared.validate.Validate.{Validate}
 use Rattle.art_attempt.specs.declared.validate.Validate.TheVariants.{Read, Header, Torn, Ended}
 use Rattle.art_attempt.specs.declared.validate.Validated.TheVariants.{Changed}
-use Rattle.art_machine.specs.Acting.{Answers, telling}
-use Rattle.art_machine.specs.declared.actions.Action.{Action}
-use Rattle.art_machine.specs.declared.actions.Action.TheVariants as action
-use Rattle.art_machine.specs.declared.actions.Answer.{Answer}
-use Rattle.art_machine.specs.declared.actions.Answer.TheVariants.{Begun, Word, Checked, Upgraded, Done}
+use Rattle.art_step.specs.Acting.{Answers, telling}
+use Rattle.art_step.specs.declared.actions.Action.{Action}
+use Rattle.art_step.specs.declared.actions.Action.TheVariants as action
+use Rattle.art_step.specs.declared.actions.Answer.{Answer}
+use Rattle.art_step.specs.declared.actions.Answer.TheVariants.{Begun, Word, Checked, Upgraded, Done}
 use Rattle.art_plan.proofs.WholeCells.{above_is, body_read, has_above, has_read}
 use Rattle.art_plan.proofs.WordsWithin.{past_prefix}
 use Rattle.art_plan.specs.declared.choose_remove.Lower.{Lower as LowerNode}

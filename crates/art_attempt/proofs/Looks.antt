@@ -1,7 +1,7 @@
 -- A validation takes no failure back, and a change that has come further is begun.
 use Rattle.std.proofs.Common.{◌≡◌, ◌<◌, ◌≤◌, ℕ, false, refl, arith}
 use Rattle.std.proofs.lemmas.Bool.{ne_eqb}
-use Rattle.art_make.specs.Apply.{is_begun}
+use Rattle.art_plan.specs.Apply.{is_begun}
 use Rattle.art_attempt.specs.Naming as naming
 use Rattle.art_attempt.specs.Validate.{failures_of}
 use Rattle.art_attempt.specs.declared.naming.Named.TheVariants as named
@@ -10,9 +10,9 @@ use Rattle.art_attempt.specs.declared.naming.Naming.TheVariants as names
 use Rattle.art_attempt.specs.declared.validate.Validate.{Validate}
 use Rattle.art_attempt.specs.declared.validate.Validate.TheVariants as checks
 use Rattle.art_attempt.specs.declared.validate.Validated.TheVariants as validated
-use Rattle.art_make.specs.Apply.{most_steps}
-use Rattle.art_make.specs.declared.apply.Apply.{Apply}
-use Rattle.art_make.specs.declared.apply.Apply.TheVariants.{Upgrading, Claiming, Filling, Writing, Committing, Releasing, ReleasingNode, GivingUp, Ended}
+use Rattle.art_plan.specs.Apply.{most_steps}
+use Rattle.art_plan.specs.declared.apply.Apply.{Apply}
+use Rattle.art_plan.specs.declared.apply.Apply.TheVariants.{Upgrading, Claiming, Filling, Writing, Committing, Releasing, ReleasingNode, GivingUp, Ended}
 
 pub no_fewer : (m : Validate) (n : ℕ) → n ≤ failures_of m n
 no_fewer (checks.Read role r) n = omega arith

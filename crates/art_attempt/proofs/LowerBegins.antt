@@ -15,11 +15,11 @@ use Rattle.art_attempt.specs.Naming.{Fits, IsBelow, IsLower, StageFits, StillNam
 use Rattle.art_attempt.specs.declared.naming.Naming.{Naming}
 use Rattle.art_attempt.specs.declared.naming.Named.TheVariants.{Unchanged, Changed}
 use Rattle.art_attempt.specs.declared.naming.Naming.TheVariants.{Begin, Check, Ended}
-use Rattle.art_machine.specs.Acting.{Answers, telling, passed}
-use Rattle.art_machine.specs.declared.actions.Action.{Action}
-use Rattle.art_machine.specs.declared.actions.Action.TheVariants as action
-use Rattle.art_machine.specs.declared.actions.Answer.{Answer}
-use Rattle.art_machine.specs.declared.actions.Answer.TheVariants.{Begun, Word, Checked, Upgraded, Done}
+use Rattle.art_step.specs.Acting.{Answers, telling, passed}
+use Rattle.art_step.specs.declared.actions.Action.{Action}
+use Rattle.art_step.specs.declared.actions.Action.TheVariants as action
+use Rattle.art_step.specs.declared.actions.Answer.{Answer}
+use Rattle.art_step.specs.declared.actions.Answer.TheVariants.{Begun, Word, Checked, Upgraded, Done}
 use Rattle.art_plan.proofs.WholeCells.{above_is}
 use Rattle.art_step.proofs.Shows.{begun_clear, begun_rest, begun_stamp, failed_rest, passed_rest}
 use Rattle.art_step.specs.Shows.{HasStamp, OnlyReads}

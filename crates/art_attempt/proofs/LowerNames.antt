@@ -19,7 +19,7 @@ use Rattle.art_find.proofs.Stages.{noted_names}
 use Rattle.art_attempt.specs.Naming.{HasLower, IsLed, StillNames, IsParent, IsThird, WouldLead}
 use Rattle.art_find.proofs.Keeping.{path_passed}
 use Rattle.art_find.specs.ReadSets.{node_of}
-use Rattle.art_machine.specs.Acting.{HasPath}
+use Rattle.art_step.specs.Acting.{HasPath}
 use Rattle.art_find.specs.declared.read_sets.ReadSet.{ReadSet}
 use Rattle.art_find.specs.declared.findings.Above.{Above}
 use Rattle.art_find.specs.declared.findings.Position.{Position}

@@ -18,10 +18,10 @@ use Rattle.art_attempt.specs.declared.naming.Named.{Named}
 use Rattle.art_attempt.specs.declared.naming.Named.TheVariants.{Unchanged, Changed}
 use Rattle.art_attempt.specs.declared.naming.Naming.{Naming}
 use Rattle.art_attempt.specs.declared.naming.Naming.TheVariants as names
-use Rattle.art_machine.proofs.Counting.{Counted, look_counts}
-use Rattle.art_machine.specs.Acting.{Answers, goes_on, telling}
-use Rattle.art_machine.specs.declared.actions.Action.{Action}
-use Rattle.art_machine.specs.declared.actions.Answer.{Answer}
+use Rattle.art_step.proofs.Counting.{Counted, look_counts}
+use Rattle.art_step.specs.Acting.{Answers, goes_on, telling}
+use Rattle.art_step.specs.declared.actions.Action.{Action}
+use Rattle.art_step.specs.declared.actions.Answer.{Answer}
 use Rattle.art_step.specs.declared.deeds.Deed.{Deed}
 use Rattle.art_step.specs.declared.views.Sizes.{Sizes}
 use Rattle.art_step.specs.declared.views.View.{View}

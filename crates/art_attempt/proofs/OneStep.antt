@@ -8,10 +8,10 @@ use Rattle.art_attempt.specs.declared.attempts.Part.{Part}
 use Rattle.art_attempt.specs.declared.attempts.Part.TheVariants.{Reserve, Reading, Naming, Validate}
 use Rattle.art_attempt.specs.declared.attempts.Room.{Room}
 use Rattle.art_find.specs.declared.findings.Position.{Position}
-use Rattle.art_machine.specs.Acting.{Answers, steps_in}
-use Rattle.art_machine.specs.declared.actions.Action.{Action}
-use Rattle.art_machine.specs.declared.actions.Answer.{Answer}
-use Rattle.art_machine.specs.declared.actions.Effects.{Effects}
+use Rattle.art_step.specs.Acting.{Answers, steps_in}
+use Rattle.art_step.specs.declared.actions.Action.{Action}
+use Rattle.art_step.specs.declared.actions.Answer.{Answer}
+use Rattle.art_step.specs.declared.actions.Effects.{Effects}
 use Rattle.art_step.specs.declared.views.Sizes.{Sizes}
 use Rattle.art_step.specs.declared.views.View.{View}
 

@@ -27,9 +27,9 @@ use Rattle.art_find.specs.declared.read_sets.ReadSet.{ReadSet}
 use Rattle.art_find.specs.declared.read_sets.Rereading.{Rereading}
 use Rattle.art_plan.specs.ChooseRemove.Losses.{loss_at}
 use Rattle.art_plan.specs.declared.choose_remove.Loss.TheVariants as loss
-use Rattle.art_machine.specs.Acting.{Answers, telling, word_in}
-use Rattle.art_machine.specs.declared.actions.Action.{Action}
-use Rattle.art_machine.specs.declared.actions.Answer.{Answer}
+use Rattle.art_step.specs.Acting.{Answers, telling, word_in}
+use Rattle.art_step.specs.declared.actions.Action.{Action}
+use Rattle.art_step.specs.declared.actions.Answer.{Answer}
 use Rattle.art_step.specs.Steps.Read.{Outcome}
 use Rattle.art_step.specs.Views.{size_of}
 use Rattle.art_step.specs.declared.deeds.Deed.{Deed}

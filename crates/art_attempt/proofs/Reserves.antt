@@ -17,24 +17,24 @@ use Rattle.art_plan.specs.ArtCommit.CommitLaws.{HasNode}
 use Rattle.art_epoch.proofs.Searching.{around_inside, few_looks}
 use Rattle.art_epoch.specs.Taking.{NoneBefore, OnlyTakes, SearchFits, Takes, TookLowest, TookNone}
 use Rattle.art_epoch.specs.Taking as taking
-use Rattle.art_machine.specs.declared.actions.Action.{Action}
-use Rattle.art_machine.specs.declared.actions.Answer.{Answer}
-use Rattle.art_machine.specs.declared.actions.Action.TheVariants.{ClearBit, WriteLeaf}
+use Rattle.art_step.specs.declared.actions.Action.{Action}
+use Rattle.art_step.specs.declared.actions.Answer.{Answer}
+use Rattle.art_step.specs.declared.actions.Action.TheVariants.{ClearBit, WriteLeaf}
 use Rattle.art_epoch.specs.declared.stocks.Search.{Search}
 use Rattle.art_epoch.specs.declared.stocks.Search.TheVariants.{Looking, Clearing, Took}
 use Rattle.art_epoch.specs.declared.stocks.Taking.{Taking}
 use Rattle.art_epoch.proofs.Stocked.{stock_same, stock_took_leaf, stock_took_node, taken_node}
 use Rattle.art_epoch.specs.Stocks.{HasStock, IsIn, node_in, with_leaf, with_node, words_written}
 use Rattle.art_epoch.specs.declared.stocks.Stock.{Stock}
-use Rattle.art_machine.proofs.Words.{done_row, word_row}
-use Rattle.art_machine.specs.Acting.{Answers, IsAllowed, word_in}
+use Rattle.art_step.proofs.Words.{done_row, word_row}
+use Rattle.art_step.specs.Acting.{Answers, IsAllowed, word_in}
 use Rattle.art_attempt.specs.Reserve.{Fits, HasLeafWords, HasNone, IsPacking, IsSoon, IsSought, IsWanted, OnlySupplies, StageFits, StayFound, asks, few_steps, leaf_asked, leaf_looks, leaf_steps, looks_before, most_steps, node_looks, node_steps, search_looks, search_steps, steps_before}
 use Rattle.art_attempt.specs.declared.reserve.Reserve.{Reserve}
 use Rattle.art_attempt.specs.declared.reserve.Reserve.TheVariants as stage
 use Rattle.art_attempt.specs.declared.reserve.Demand.{Demand}
-use Rattle.art_epoch.proofs.ArtMake.PackedLeaves.{word_form}
-use Rattle.art_epoch.specs.ArtMake.LeafWriter.{IsPacked, OnlyPacks, LeafWriterFits, word_asked}
-use Rattle.art_epoch.specs.ArtMake.declared.leaf_writer.LeafWriter.{LeafWriter}
+use Rattle.art_epoch.proofs.PackedLeaves.{word_form}
+use Rattle.art_epoch.specs.LeafWriter.{IsPacked, OnlyPacks, LeafWriterFits, word_asked}
+use Rattle.art_epoch.specs.declared.leaf_writer.LeafWriter.{LeafWriter}
 use Rattle.art_step.specs.Steps.Take as take_free
 use Rattle.art_step.specs.Steps.Write as write
 use Rattle.art_step.specs.Tokens.{link_of_number}

@@ -1,6 +1,6 @@
 -- Turns are spent, one for each step.
 use Rattle.std.proofs.Common.{◌≡◌, ◌+◌, ◌-◌, ◌<◌, ℕ, refl, arith}
-use Rattle.art_machine.specs.Turns.{Spends}
+use Rattle.art_step.specs.Turns.{Spends}
 use Rattle.art_step.specs.declared.views.View.{View}
 
 -- without a step none is

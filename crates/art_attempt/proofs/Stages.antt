@@ -9,10 +9,10 @@ use Rattle.art_attempt.specs.declared.attempts.Stage.TheVariants as stage
 use Rattle.art_attempt.specs.declared.attempts.Part.{Part}
 use Rattle.art_find.specs.declared.findings.Finding.{Finding}
 use Rattle.art_find.specs.declared.findings.Position.{Position}
-use Rattle.art_machine.specs.Acting.{Answers, telling}
-use Rattle.art_machine.specs.declared.actions.Action.{Action}
-use Rattle.art_machine.specs.declared.actions.Answer.{Answer}
-use Rattle.art_make.specs.declared.apply.Apply.{Apply}
+use Rattle.art_step.specs.Acting.{Answers, telling}
+use Rattle.art_step.specs.declared.actions.Action.{Action}
+use Rattle.art_step.specs.declared.actions.Answer.{Answer}
+use Rattle.art_plan.specs.declared.apply.Apply.{Apply}
 use Rattle.art_step.specs.declared.deeds.Deed.{Deed}
 use Rattle.art_step.specs.declared.views.Sizes.{Sizes}
 use Rattle.art_step.specs.declared.views.View.{View}

@@ -20,7 +20,7 @@ use Rattle.art_find.specs.declared.read_sets.ReadSet.{ReadSet}
 use Rattle.art_attempt.specs.Naming.{IsBelow, IsLed, IsLower, IsParent, StillNames, StillStands, WouldLead}
 use Rattle.art_attempt.specs.Reserve.{StayFound}
 use Rattle.art_attempt.specs.Validate.{FoundAt, HasJustChecked}
-use Rattle.art_machine.specs.Acting.{HasPath}
+use Rattle.art_step.specs.Acting.{HasPath}
 use Rattle.art_plan.specs.ChooseInsert.Bodies.{HasWords}
 use Rattle.art_step.specs.Shows.{HasStamp, OnlyReads}
 use Rattle.art_step.specs.Steps.Check as check

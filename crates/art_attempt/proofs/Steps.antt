@@ -1,10 +1,10 @@
 -- No step of an attempt goes back in time, nor does a failure.
 use Rattle.std.proofs.Common.{◌≡◌, ◌+◌, ◌<◌, ◌≤◌, Bool, true, false, subst, arith}
 use Rattle.art_attempt.specs.Trying.{IsLater}
-use Rattle.art_machine.proofs.Counting.{Counted, look_counts}
-use Rattle.art_machine.specs.Acting.{Answers, IsLook, goes_on, telling}
-use Rattle.art_machine.specs.declared.actions.Action.{Action}
-use Rattle.art_machine.specs.declared.actions.Answer.{Answer}
+use Rattle.art_step.proofs.Counting.{Counted, look_counts}
+use Rattle.art_step.specs.Acting.{Answers, IsLook, goes_on, telling}
+use Rattle.art_step.specs.declared.actions.Action.{Action}
+use Rattle.art_step.specs.declared.actions.Answer.{Answer}
 use Rattle.art_step.specs.declared.deeds.Deed.{Deed}
 use Rattle.art_step.specs.declared.views.Sizes.{Sizes}
 use Rattle.art_step.specs.declared.views.View.{View}

@@ -7,7 +7,7 @@ use Rattle.art_attempt.specs.declared.validate.Cells.{Cells}
 use Rattle.art_epoch.proofs.Stocked.{stock_same}
 use Rattle.art_epoch.specs.Stocks.{HasStock}
 use Rattle.art_epoch.specs.declared.stocks.Stock.{Stock}
-use Rattle.art_make.specs.Apply.{HasFailed, IsCommitted}
+use Rattle.art_plan.specs.Apply.{HasFailed, IsCommitted}
 use Rattle.art_find.proofs.FoundPlaces.{standing_grows}
 use Rattle.art_find.proofs.Keeping.{Grows}
 use Rattle.art_find.specs.Findings.{IsStanding}

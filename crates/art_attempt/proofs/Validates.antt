@@ -32,12 +32,12 @@ use Rattle.art_attempt.specs.declared.validate.Role.TheVariants.{Above, Here, Lo
 use Rattle.art_attempt.specs.declared.validate.Validate.{Validate}
 use Rattle.art_attempt.specs.declared.validate.Validate.TheVariants.{Read, Header, Check, Torn, Ended}
 use Rattle.art_attempt.specs.declared.validate.Validated.TheVariants.{Unchanged}
-use Rattle.art_machine.proofs.Words.{word_row}
-use Rattle.art_machine.specs.Acting.{Answers, HasPath, telling, word_in}
-use Rattle.art_machine.specs.declared.actions.Action.{Action}
-use Rattle.art_machine.specs.declared.actions.Action.TheVariants as action
-use Rattle.art_machine.specs.declared.actions.Answer.{Answer}
-use Rattle.art_machine.specs.declared.actions.Answer.TheVariants.{Begun, Word, Checked, Upgraded, Done}
+use Rattle.art_step.proofs.Words.{word_row}
+use Rattle.art_step.specs.Acting.{Answers, HasPath, telling, word_in}
+use Rattle.art_step.specs.declared.actions.Action.{Action}
+use Rattle.art_step.specs.declared.actions.Action.TheVariants as action
+use Rattle.art_step.specs.declared.actions.Answer.{Answer}
+use Rattle.art_step.specs.declared.actions.Answer.TheVariants.{Begun, Word, Checked, Upgraded, Done}
 use Rattle.art_plan.specs.ChooseInsert.Seen.{WasVouched}
 use Rattle.art_plan.specs.declared.choose_remove.Lower.{Lower as LowerNode}
 use Rattle.art_step.proofs.Shows.{failed_rest, passed_rest}

@@ -1,12 +1,12 @@
 -- What each step of an attempt needs of the pass's view, and what its answer says of the view after it.
 use Rattle.std.specs.Prelude.{⊤, Option, Some, None}
 use Rattle.art_find.specs.Asking.{MayLook}
-use Rattle.art_machine.specs.Acting as acting
-use Rattle.art_machine.specs.Acting.{telling}
-use Rattle.art_machine.specs.declared.actions.Action.{Action}
-use Rattle.art_machine.specs.declared.actions.Action.TheVariants.{Settle, Commit}
-use Rattle.art_machine.specs.declared.actions.Answer.{Answer}
-use Rattle.art_machine.specs.declared.actions.Effects.{Effects}
+use Rattle.art_step.specs.Acting as acting
+use Rattle.art_step.specs.Acting.{telling}
+use Rattle.art_step.specs.declared.actions.Action.{Action}
+use Rattle.art_step.specs.declared.actions.Action.TheVariants.{Settle, Commit}
+use Rattle.art_step.specs.declared.actions.Answer.{Answer}
+use Rattle.art_step.specs.declared.actions.Effects.{Effects}
 use Rattle.art_plan.specs.declared.changes.Change.{Change as ChangeOf}
 use Rattle.art_step.specs.Steps.Check as check
 use Rattle.art_step.specs.WordPlaces.{HasVersion}

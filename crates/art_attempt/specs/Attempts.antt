@@ -40,14 +40,14 @@ use Rattle.art_attempt.specs.Validate as validate
 use Rattle.art_attempt.specs.declared.naming.Naming.{Naming}
 use Rattle.art_attempt.specs.declared.reserve.Reserve.{Reserve}
 use Rattle.art_attempt.specs.declared.validate.Validate.{Validate}
-use Rattle.art_machine.specs.Acting.{goes_on, passed}
-use Rattle.art_machine.specs.declared.actions.Action.{Action}
-use Rattle.art_machine.specs.declared.actions.Action.TheVariants.{Check, Settle}
-use Rattle.art_machine.specs.declared.actions.Answer.{Answer}
-use Rattle.art_machine.specs.declared.actions.Answer.TheVariants.{Upgraded}
-use Rattle.art_make.specs.Apply as apply
-use Rattle.art_make.specs.Apply.{fault_of, is_begun, most_steps}
-use Rattle.art_make.specs.declared.apply.Apply.{Apply}
+use Rattle.art_step.specs.Acting.{goes_on, passed}
+use Rattle.art_step.specs.declared.actions.Action.{Action}
+use Rattle.art_step.specs.declared.actions.Action.TheVariants.{Check, Settle}
+use Rattle.art_step.specs.declared.actions.Answer.{Answer}
+use Rattle.art_step.specs.declared.actions.Answer.TheVariants.{Upgraded}
+use Rattle.art_plan.specs.Apply as apply
+use Rattle.art_plan.specs.Apply.{fault_of, is_begun, most_steps}
+use Rattle.art_plan.specs.declared.apply.Apply.{Apply}
 use Rattle.art_model.specs.declared.commands.Answer.TheVariants as reply
 use Rattle.art_plan.specs.Changes.{IsPlanned, target_at, unlinked}
 use Rattle.art_plan.specs.ChooseInsert.Plans.{Comes, LocksOnly}

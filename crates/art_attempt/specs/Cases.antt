@@ -19,7 +19,7 @@ use Rattle.art_attempt.specs.Reserve.{HasNone}
 use Rattle.art_attempt.specs.Naming.{KnowsHere}
 use Rattle.art_attempt.specs.declared.validate.Cells.{Cells}
 use Rattle.art_attempt.specs.declared.reserve.Demand.{Demand}
-use Rattle.art_machine.specs.declared.actions.Effects.{Effects}
+use Rattle.art_step.specs.declared.actions.Effects.{Effects}
 use Rattle.art_model.specs.declared.commands.Answer.TheVariants as reply
 use Rattle.art_plan.specs.Changes.{targets}
 use Rattle.art_plan.specs.ChooseInsert.Needs.{needs_of}

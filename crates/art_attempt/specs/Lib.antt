@@ -1,7 +1,6 @@
 -- the crates below, for those above to name
 pub use Rattle.art_plan.specs as ArtPlan
 pub use Rattle.art_epoch.specs as ArtEpoch
-pub use Rattle.art_make.specs as ArtMake
 pub use Rattle.art_find.specs as ArtFind
 pub mod Asking
 pub mod Attempts

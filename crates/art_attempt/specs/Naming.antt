@@ -20,9 +20,9 @@ use Rattle.art_attempt.specs.declared.naming.Named.{Named}
 use Rattle.art_attempt.specs.declared.naming.Named.TheVariants.{Unchanged, Changed}
 use Rattle.art_attempt.specs.declared.naming.Naming.{Naming}
 use Rattle.art_attempt.specs.declared.naming.Naming.TheVariants.{Begin, Check, Ended}
-use Rattle.art_machine.specs.Acting.{HasPath}
-use Rattle.art_machine.specs.declared.actions.Action.{Action}
-use Rattle.art_machine.specs.declared.actions.Action.TheVariants as action
+use Rattle.art_step.specs.Acting.{HasPath}
+use Rattle.art_step.specs.declared.actions.Action.{Action}
+use Rattle.art_step.specs.declared.actions.Action.TheVariants as action
 use Rattle.art_plan.specs.ChooseInsert.Bodies.{HasWords}
 use Rattle.art_plan.specs.ChooseRemove.Others.{NamesChild}
 use Rattle.art_step.specs.Shows.{HasStamp}

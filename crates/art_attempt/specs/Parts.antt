@@ -9,7 +9,7 @@ use Rattle.art_attempt.specs.declared.attempts.Stage.{Stage}
 use Rattle.art_attempt.specs.declared.attempts.Stage.TheVariants as stage
 use Rattle.art_attempt.specs.declared.attempts.Room.{Room}
 use Rattle.art_attempt.specs.declared.validate.Validated.{Validated}
-use Rattle.art_machine.specs.Turns.{Spends}
+use Rattle.art_step.specs.Turns.{Spends}
 use Rattle.art_step.specs.declared.views.Sizes.{Sizes}
 use Rattle.art_step.specs.declared.views.View.{View}
 

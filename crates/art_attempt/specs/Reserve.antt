@@ -6,7 +6,7 @@ use Rattle.art_cell.specs.declared.cells.Pool.{Pool}
 use Rattle.art_cell.specs.declared.cells.Pool.TheVariants.{Leaves}
 use Rattle.art_epoch.specs.Taking.{MadeFew, NoneBefore, OnlyTakes}
 use Rattle.art_epoch.specs.Taking as taking
-use Rattle.art_machine.specs.declared.actions.Action.{Action}
+use Rattle.art_step.specs.declared.actions.Action.{Action}
 use Rattle.art_epoch.specs.declared.stocks.Taking.{Taking}
 use Rattle.art_epoch.specs.Stocks.{HasStock, node_in}
 use Rattle.art_epoch.specs.declared.stocks.Stock.{Stock}
@@ -15,8 +15,8 @@ use Rattle.art_attempt.specs.declared.reserve.Reserved.TheVariants.{Ready, Full}
 use Rattle.art_attempt.specs.declared.reserve.Reserve.{Reserve}
 use Rattle.art_attempt.specs.declared.reserve.Reserve.TheVariants.{Leaf, LeafWriter, Node, Ended}
 use Rattle.art_attempt.specs.declared.reserve.Demand.{Demand}
-use Rattle.art_epoch.specs.ArtMake.LeafWriter.{LeafWriterFits, word_asked}
-use Rattle.art_epoch.specs.ArtMake.declared.leaf_writer.LeafWriter.{LeafWriter as LeafWriterOf}
+use Rattle.art_epoch.specs.LeafWriter.{LeafWriterFits, word_asked}
+use Rattle.art_epoch.specs.declared.leaf_writer.LeafWriter.{LeafWriter as LeafWriterOf}
 use Rattle.art_step.specs.Views.{Member, pool_of_layout}
 use Rattle.art_step.specs.WordPlaces.{free_words, pool_size}
 use Rattle.art_step.specs.declared.views.Found.{Found}

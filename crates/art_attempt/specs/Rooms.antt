@@ -4,7 +4,7 @@ use Rattle.std.specs.Option.{option_and_then, unwrap_or}
 use Rattle.art_cell.specs.declared.cells.Layout.{Layout}
 use Rattle.art_epoch.specs.Stocks.{node_in, without_all}
 use Rattle.art_epoch.specs.declared.stocks.Stock.{Stock}
-use Rattle.art_make.specs.Apply.{linked}
+use Rattle.art_plan.specs.Apply.{linked}
 use Rattle.art_plan.specs.declared.changes.Change.{Change}
 
 -- the number of a node of the layout, and 0 where none is in hand or none is needed

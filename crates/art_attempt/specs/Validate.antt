@@ -19,10 +19,10 @@ use Rattle.art_attempt.specs.declared.validate.Validate.{Validate}
 use Rattle.art_attempt.specs.declared.validate.Validate.TheVariants.{Read, Header, Check, Torn, Ended}
 use Rattle.art_attempt.specs.declared.validate.Validated.{Validated}
 use Rattle.art_attempt.specs.declared.validate.Validated.TheVariants.{Unchanged, Changed}
-use Rattle.art_machine.specs.Acting.{passed}
-use Rattle.art_machine.specs.declared.actions.Action.{Action}
-use Rattle.art_machine.specs.declared.actions.Action.TheVariants as action
-use Rattle.art_machine.specs.declared.actions.Answer.{Answer}
+use Rattle.art_step.specs.Acting.{passed}
+use Rattle.art_step.specs.declared.actions.Action.{Action}
+use Rattle.art_step.specs.declared.actions.Action.TheVariants as action
+use Rattle.art_step.specs.declared.actions.Answer.{Answer}
 use Rattle.art_plan.specs.declared.choose_remove.Lower.{Lower as LowerNode}
 use Rattle.art_step.specs.Steps.Check as check
 use Rattle.art_step.specs.Views.{Member, size_of}

@@ -6,8 +6,8 @@ ghost use Rattle.art_attempt.specs.Trying.{StillTries, IsKey};
 ghost use Rattle.art_attempt.specs.declared.attempts.Ending.TheVariants.{Restart as anew, Overlaps as overlaps};
 ghost use Rattle.art_epoch.specs.Stocks.{HasStock, first_hints, nothing};
 ghost use Rattle.art_find.specs.Findings.{position_at};
-ghost use Rattle.art_machine.specs.Acting.{steps_in};
-ghost use Rattle.art_machine.specs.declared.actions.Action.{Action as ActionOf};
+ghost use Rattle.art_step.specs.Acting.{steps_in};
+ghost use Rattle.art_step.specs.declared.actions.Action.{Action as ActionOf};
 ghost use Rattle.art_step.specs.declared.views.Sizes.{Sizes};
 ghost use Rattle.art_step.specs.declared.views.View.{View};
 ghost use Rattle.art_attempt.specs.Cases.{cells_of, demand_of};
@@ -18,10 +18,8 @@ use art_cell::{Body, Cell, Layout, Node, Pool, Reads};
 use art_epoch::Stock;
 use art_find::{Finding, Position, ReadSet, Rereading, Verdict};
 use art_key::Key;
-use art_machine::{Action, Answer};
-use art_make::Apply;
-use art_plan::{Bodies, Change, Lower, NewLeaf, OldLeaf, blank, needed};
-use art_step::{EpochSteps, Sizes};
+use art_plan::{Apply, Bodies, Change, Lower, NewLeaf, OldLeaf, blank, needed};
+use art_step::{Action, Answer, EpochSteps, Sizes};
 
 /// What a write does.
 #[derive(Clone, Copy)]

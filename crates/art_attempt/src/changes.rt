@@ -9,10 +9,10 @@ ghost use Rattle.art_attempt.specs.declared.attempts.Case.TheVariants as cases;
 ghost use Rattle.art_attempt.specs.declared.validate.Validate.TheVariants.{Ended as validated};
 ghost use Rattle.art_attempt.specs.declared.validate.Validated.TheVariants.{Unchanged as unchanged};
 ghost use Rattle.art_find.specs.declared.findings.Position.{Position as PositionOf};
-ghost use Rattle.art_machine.specs.Acting.{Answers as ActionAnswers, steps_in};
-ghost use Rattle.art_machine.specs.declared.actions.Action.{Action as ActionOf};
-ghost use Rattle.art_make.specs.Apply.{brings, ended_at as made_at, is_begun};
-ghost use Rattle.art_make.specs.declared.apply.Apply.{Apply as ApplyOf};
+ghost use Rattle.art_step.specs.Acting.{Answers as ActionAnswers, steps_in};
+ghost use Rattle.art_step.specs.declared.actions.Action.{Action as ActionOf};
+ghost use Rattle.art_plan.specs.Apply.{brings, ended_at as made_at, is_begun};
+ghost use Rattle.art_plan.specs.declared.apply.Apply.{Apply as ApplyOf};
 ghost use Rattle.art_plan.specs.Changes.{targets};
 ghost use Rattle.art_step.specs.declared.faults.UpgradeFault.{UpgradeFault as FaultOf};
 ghost use Rattle.art_step.specs.declared.views.Sizes.{Sizes};
@@ -21,12 +21,10 @@ ghost use Rattle.art_step.specs.declared.views.View.{View};
 use crate::{Attempt, Case, Ending, Job, Room, Stage};
 use art_cell::Layout;
 use art_find::Position;
-use art_machine::{Action, Answer};
-use art_make::Apply;
 use art_plan::{
-    Lower, needed, plan_drop, plan_insert, plan_merge_leaf, plan_merge_node, plan_shrink,
+    Apply, Lower, needed, plan_drop, plan_insert, plan_merge_leaf, plan_merge_node, plan_shrink,
 };
-use art_step::{EpochSteps, UpgradeFault};
+use art_step::{Action, Answer, EpochSteps, UpgradeFault};
 
 impl Attempt {
     ghost use Rattle.std.specs.Prelude.{IfSome};
@@ -174,7 +172,6 @@ impl Attempt {
     }
 
     /// What comes next where the change is made.
-    #[inline(always)]
     pub(crate) fn make_next(&self, room: &Room, apply: &Apply) -> Option<Action>
         ensures asks { result ≡ apply_asks apply.now room.now }
         ensures allowed { (z : Sizes) (u v : View) (d : Deed) → HasMade z u self.now.job apply.now room.now v →
@@ -186,7 +183,6 @@ impl Attempt {
     }
 
     /// A step of the change was made.
-    #[inline(always)]
     pub(crate) fn make_told(&mut self, room: &mut Room, apply: Apply, answer: Answer)
         requires { (z : Sizes) × (u : View) × (v : View) × (w : View) × (asked : ActionOf) × IsRoom z room.old ×
             HasMade z u self.old.job apply room.old v × (apply_asks apply room.old ≡ Some asked) ×

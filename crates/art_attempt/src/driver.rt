@@ -4,15 +4,14 @@ ghost use Rattle.art_attempt.specs.Asking.{Answers, IsAllowed};
 ghost use Rattle.art_attempt.specs.Attempts.{deed_at, settled_by};
 ghost use Rattle.art_attempt.specs.Cases.{made_by};
 ghost use Rattle.art_cell.specs.declared.cells.Cell.{Cell as CellOf};
-ghost use Rattle.art_machine.specs.Acting.{IsPlain, PassesAmong};
-ghost use Rattle.art_machine.specs.declared.actions.Action.TheVariants.{Commit as commit};
+ghost use Rattle.art_step.specs.Acting.{IsPlain, PassesAmong};
+ghost use Rattle.art_step.specs.declared.actions.Action.TheVariants.{Commit as commit};
 
 use crate::{Attempt, Job, Room};
 use art_key::Key;
-use art_machine::{Action, Answer, Effects, perform};
 use art_model::Answer as Reply;
 use art_plan::NewLeaf;
-use art_step::{Act, Deed, EpochSteps};
+use art_step::{Act, Action, Answer, Deed, Effects, EpochSteps, perform};
 
 /// What a write of the row does where its check settles the answer: its key is there with this value, or no row has it.
 fn settled(job: Job, row: &NewLeaf, stands: u64) -> Deed

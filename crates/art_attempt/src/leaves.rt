@@ -16,8 +16,8 @@ ghost use Rattle.art_find.specs.declared.read_sets.Rereading.{Rereading as Rerea
 ghost use Rattle.art_attempt.specs.Naming.{KnowsHere, ended_at as named_at};
 ghost use Rattle.art_attempt.specs.declared.naming.Named.TheVariants.{Changed as changed_name};
 ghost use Rattle.art_attempt.specs.declared.naming.Naming.{Naming as NamingOf};
-ghost use Rattle.art_machine.specs.Acting.{Answers as ActionAnswers, goes_on, telling};
-ghost use Rattle.art_machine.specs.declared.actions.Action.{Action as ActionOf};
+ghost use Rattle.art_step.specs.Acting.{Answers as ActionAnswers, goes_on, telling};
+ghost use Rattle.art_step.specs.declared.actions.Action.{Action as ActionOf};
 ghost use Rattle.art_plan.specs.ChooseRemove.Losses.{loss_at};
 ghost use Rattle.art_plan.specs.ChooseRemove.Others.{NamesChild};
 ghost use Rattle.art_plan.specs.declared.choose_remove.Loss.TheVariants as losses;
@@ -28,9 +28,8 @@ ghost use Rattle.art_step.specs.declared.views.View.{View};
 use crate::{Attempt, Case, Ending, Named, Naming, Part, Room, Stage};
 use art_cell::{Link, Node};
 use art_find::{Position, ReadSet, Rereading, look};
-use art_machine::{Action, Answer};
 use art_plan::{Loss, Lower, lost, other_child};
-use art_step::EpochSteps;
+use art_step::{Action, Answer, EpochSteps};
 
 impl Attempt {
     ghost use Rattle.std.specs.Prelude.{IfSome};
@@ -39,7 +38,6 @@ impl Attempt {
     ghost use Rattle.art_step.specs.declared.deeds.Deed.{Deed};
 
     /// What comes next where the node is read on.
-    #[inline(always)]
     pub(crate) fn read_next(&self, position: &Position, rereading: &Rereading) -> Option<Action>
         ensures asks { result ≡ reading_asks position.now rereading.now }
         ensures allowed { (z : Sizes) (u v : View) (r : RoomOf) (d : Deed) → IsReadingOn z u self.now.job position.now rereading.now r v →
@@ -187,7 +185,6 @@ impl Attempt {
     }
 
     /// What comes next where that node is stamped.
-    #[inline(always)]
     pub(crate) fn name_next(&self, position: &Position, naming: &Naming) -> Option<Action>
         ensures asks { result ≡ naming_asks position.now naming.now }
         ensures allowed { (z : Sizes) (u v : View) (byte : ℕ) (n : NodeOf) (r : RoomOf) (d : Deed) →

@@ -4,7 +4,7 @@
 //!
 //! The parts of a write are machines of their own: a descent that finds where the key stands (`art_find`), one that brings
 //! numbers into the hand (`Reserve`), one that reads and checks what will be written (`Validate`), a plan (`art_plan`), and the
-//! making of a change (`art_make`). Between any two of their steps other passes make theirs. What one part knows when it ends has to
+//! making of a change (`Apply`). Between any two of their steps other passes make theirs. What one part knows when it ends has to
 //! be what the next one asks for when it begins, and has to be known of the same view of the pass.
 //!
 //! # The way

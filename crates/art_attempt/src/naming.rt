@@ -37,16 +37,15 @@ ghost use Rattle.art_find.specs.declared.findings.Position.{Position as Position
 ghost use Rattle.art_find.specs.declared.read_sets.ReadSet.{ReadSet as ReadSetOf};
 ghost use Rattle.art_attempt.specs.Naming.{Fits, StillNames, asks, ended_at, steps_left};
 ghost use Rattle.art_attempt.specs.declared.naming.Naming.TheVariants.{Begin as beginning, Check as checking};
-ghost use Rattle.art_machine.specs.Acting.{Answers, telling};
-ghost use Rattle.art_machine.specs.declared.actions.Action.{Action as ActionOf};
+ghost use Rattle.art_step.specs.Acting.{Answers, telling};
+ghost use Rattle.art_step.specs.declared.actions.Action.{Action as ActionOf};
 ghost use Rattle.art_step.specs.declared.deeds.Deed.{Deed};
 ghost use Rattle.art_step.specs.declared.views.Sizes.{Sizes};
 ghost use Rattle.art_step.specs.declared.views.View.{View};
 
 use art_cell::{Cell, Node, Reads};
 use art_find::Position;
-use art_machine::{Action, Answer};
-use art_step::Stamp;
+use art_step::{Action, Answer, Stamp};
 
 /// How a naming ended.
 #[derive(Clone, Copy)]

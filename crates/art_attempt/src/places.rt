@@ -7,15 +7,14 @@ ghost use Rattle.art_attempt.specs.declared.attempts.Job.TheVariants as jobs;
 ghost use Rattle.art_attempt.specs.declared.attempts.Stage.TheVariants as stages;
 ghost use Rattle.art_find.specs.Findings.{position_at};
 ghost use Rattle.art_find.specs.declared.descents.Verdict.TheVariants as verdicts;
-ghost use Rattle.art_machine.specs.Acting.{Answers as ActionAnswers, goes_on, passed, telling};
-ghost use Rattle.art_machine.specs.declared.actions.Action.{Action as ActionOf};
+ghost use Rattle.art_step.specs.Acting.{Answers as ActionAnswers, goes_on, passed, telling};
+ghost use Rattle.art_step.specs.declared.actions.Action.{Action as ActionOf};
 ghost use Rattle.art_step.specs.declared.views.Sizes.{Sizes};
 ghost use Rattle.art_step.specs.declared.views.View.{View};
 
 use crate::{Attempt, Case, Ending, Job, Room, Stage};
 use art_find::{Finding, Position, Verdict, look};
-use art_machine::{Action, Answer};
-use art_step::EpochSteps;
+use art_step::{Action, Answer, EpochSteps};
 
 impl Attempt {
     ghost use Rattle.std.specs.Prelude.{IfSome};
@@ -24,7 +23,6 @@ impl Attempt {
     ghost use Rattle.art_find.specs.declared.findings.Finding.{Finding as FindingOf};
 
     /// What comes next on the way to the place of the key, and its check.
-    #[inline(always)]
     pub(crate) fn find_next(&self, finding: &Finding) -> Option<Action>
         ensures asks { result ≡ finding_asks self.now.job finding.now }
         ensures allowed { (z : Sizes) (u v : View) (r : RoomOf) → IsFinding z u self.now.job finding.now r v →
@@ -58,7 +56,6 @@ impl Attempt {
     }
 
     /// The descent goes on, or its way was changed.
-    #[inline(always)]
     fn find_on(&mut self, room: &mut Room, answer: Answer)
         requires stage { (f : FindingOf) × (self.old.stage ≡ stages.Finding f) × (position_at f ≡ None) }
         requires told { (z : Sizes) × (u : View) × (v : View) × (w : View) × (asked : ActionOf) × Fits z u self.old room.old v ×
@@ -108,7 +105,6 @@ impl Attempt {
     }
 
     /// Checks the place of the key, once that is known, where this tells nothing and more than one turn is left.
-    #[inline(always)]
     pub(crate) fn settle_on<S: EpochSteps>(
         &mut self,
         steps: &mut S,

@@ -4,12 +4,12 @@ ghost use Rattle.art_cell.specs.Children.{number_of};
 ghost use Rattle.art_cell.specs.declared.cells.Pool.TheVariants.{Leaves as leaves};
 ghost use Rattle.art_epoch.specs.Taking.{Fits as TakingFits};
 ghost use Rattle.art_epoch.specs.Stocks.{HasStock, node_in};
-ghost use Rattle.art_machine.specs.Acting.{Answers, IsAllowed};
+ghost use Rattle.art_step.specs.Acting.{Answers, IsAllowed};
 ghost use Rattle.art_attempt.specs.Reserve.{Fits, HasLeafWords, IsSoon, IsSought, OnlySupplies, asks, leaf_looks};
 ghost use Rattle.art_attempt.specs.Reserve.{leaf_steps};
-ghost use Rattle.art_machine.specs.Turns.{Spends};
-ghost use Rattle.art_machine.specs.declared.actions.Action.{Action as ActionOf};
-ghost use Rattle.art_machine.specs.declared.actions.Answer.{Answer as AnswerOf};
+ghost use Rattle.art_step.specs.Turns.{Spends};
+ghost use Rattle.art_step.specs.declared.actions.Action.{Action as ActionOf};
+ghost use Rattle.art_step.specs.declared.actions.Answer.{Answer as AnswerOf};
 ghost use Rattle.art_attempt.specs.declared.reserve.Reserve.TheVariants.{Leaf as leaf_sought, LeafWriter as packed, Node as node_sought};
 ghost use Rattle.art_attempt.specs.declared.reserve.Demand.{Demand as DemandOf};
 ghost use Rattle.art_step.specs.Views.{pool_of_layout};
@@ -17,10 +17,8 @@ ghost use Rattle.art_step.specs.declared.views.Sizes.{Sizes as SizesOf};
 ghost use Rattle.art_step.specs.declared.views.View.{View};
 
 use art_cell::{Layout, Link, Node, Pool};
-use art_epoch::{Stock, Taking};
-use art_machine::{Action, Answer, perform};
-use art_make::LeafWriter;
-use art_step::{EpochSteps, Sizes, pool_of_layout, spent};
+use art_epoch::{LeafWriter, Stock, Taking};
+use art_step::{Action, Answer, EpochSteps, Sizes, perform, pool_of_layout, spent};
 
 /// What a change wants to have in hand.
 #[derive(Clone, Copy)]

@@ -17,8 +17,8 @@ ghost use Rattle.art_attempt.specs.declared.reserve.Reserved.TheVariants.{Full a
 ghost use Rattle.art_attempt.specs.declared.validate.Validate.{Validate as ValidateOf};
 ghost use Rattle.art_attempt.specs.declared.validate.Validate.TheVariants.{Ended as validate_ended};
 ghost use Rattle.art_attempt.specs.declared.validate.Validated.TheVariants.{Changed as changed_cell};
-ghost use Rattle.art_machine.specs.Acting.{Answers as ActionAnswers, goes_on, telling};
-ghost use Rattle.art_machine.specs.declared.actions.Action.{Action as ActionOf};
+ghost use Rattle.art_step.specs.Acting.{Answers as ActionAnswers, goes_on, telling};
+ghost use Rattle.art_step.specs.declared.actions.Action.{Action as ActionOf};
 ghost use Rattle.art_step.specs.declared.views.Sizes.{Sizes};
 ghost use Rattle.art_step.specs.declared.views.View.{View};
 
@@ -27,8 +27,7 @@ use crate::{
 };
 use art_cell::Pool;
 use art_find::Position;
-use art_machine::{Action, Answer};
-use art_step::EpochSteps;
+use art_step::{Action, Answer, EpochSteps};
 
 impl Attempt {
     ghost use Rattle.std.specs.Prelude.{IfSome};
@@ -37,7 +36,6 @@ impl Attempt {
     ghost use Rattle.art_step.specs.declared.deeds.Deed.{Deed};
 
     /// What comes next where numbers are brought into the hand.
-    #[inline(always)]
     pub(crate) fn supply_next(&self, room: &Room, reserve: &Reserve) -> Option<Action>
         requires short { length room.now.row.key.items ≤ 64 }
         ensures asks { result ≡ supply_asks reserve.now room.now }
@@ -72,7 +70,6 @@ impl Attempt {
     }
 
     /// A number was sought, or a word of the leaf written.
-    #[inline(always)]
     pub(crate) fn supply_told(&mut self, room: &mut Room, answer: Answer)
         requires stage { (t : PositionOf) × (c : CaseOf) × (s : ReserveOf) × (self.old.stage ≡ stages.Placed t (parts.Reserve c s)) }
         requires told { (z : Sizes) × (u : View) × (v : View) × (w : View) × (asked : ActionOf) × Fits z u self.old room.old v ×
@@ -197,7 +194,6 @@ impl Attempt {
     }
 
     /// What comes next where the cells are validated.
-    #[inline(always)]
     pub(crate) fn validate_next(
         &self,
         position: &Position,
@@ -327,7 +323,6 @@ impl Attempt {
     ghost use Rattle.art_step.specs.declared.deeds.Deed.{Deed};
 
     /// What comes next where the key stands.
-    #[inline(always)]
     pub(crate) fn part_next(&self, room: &Room, position: &Position, part: &Part) -> Option<Action>
         requires short { length room.now.row.key.items ≤ 64 }
         ensures asks { result ≡ part_asks part.now position.now room.now }
@@ -345,7 +340,6 @@ impl Attempt {
     }
 
     /// A step of the part was made.
-    #[inline(always)]
     pub(crate) fn part_told(&mut self, room: &mut Room, answer: Answer)
         requires stage { (t : PositionOf) × (p : PartOf) × (self.old.stage ≡ stages.Placed t p) }
         requires told { (z : Sizes) × (u : View) × (v : View) × (w : View) × (asked : ActionOf) × Fits z u self.old room.old v ×

@@ -14,9 +14,9 @@ ghost use Rattle.art_attempt.specs.declared.validate.Cells.{Cells as CellsOf};
 ghost use Rattle.art_attempt.specs.declared.validate.Role.TheVariants.{Above as over, Here as here, Lower as under};
 ghost use Rattle.art_attempt.specs.declared.validate.Validate.TheVariants.{Header as heading, Read as reading};
 ghost use Rattle.art_attempt.specs.declared.validate.Validated.{Validated as ValidatedOf};
-ghost use Rattle.art_machine.specs.Acting.{Answers, telling};
-ghost use Rattle.art_machine.specs.Turns.{Spends};
-ghost use Rattle.art_machine.specs.declared.actions.Action.{Action as ActionOf};
+ghost use Rattle.art_step.specs.Acting.{Answers, telling};
+ghost use Rattle.art_step.specs.Turns.{Spends};
+ghost use Rattle.art_step.specs.declared.actions.Action.{Action as ActionOf};
 ghost use Rattle.art_step.specs.Steps.Read.{Outcome as ReadOutcome};
 ghost use Rattle.art_step.specs.Views.{size_of};
 ghost use Rattle.art_step.specs.declared.deeds.Deed.{Deed};
@@ -26,10 +26,9 @@ ghost use Rattle.art_step.specs.declared.views.View.{View};
 
 use art_cell::Reads;
 use art_find::{Above, Position, ReadSet, Rereading, look};
-use art_machine::{Action, Answer};
 use art_node::read_header;
 use art_plan::Lower;
-use art_step::{EpochSteps, Stamp, Steps};
+use art_step::{Action, Answer, EpochSteps, Stamp, Steps};
 
 /// A cell that a change writes, by where it stands.
 #[derive(Clone, Copy)]

@@ -4,8 +4,8 @@ use Rattle.art_change.proofs.Endings.{IsLeft, left_by, left_since}
 use Rattle.art_attempt.specs.declared.attempts.Room.{Room}
 use Rattle.art_change.specs.Writes.{HasAnswered, IsExiting, IsDone, told_by}
 use Rattle.art_change.specs.declared.writes.Write.{Write}
-use Rattle.art_change.specs.declared.writes.Outcome.{Outcome}
-use Rattle.art_change.specs.declared.writes.Outcome.TheVariants.{New, Present, Gone, Absent, Full, Exhausted, Overlaps, Busy, Crowded}
+use Rattle.art_change.specs.declared.writes.WriteOutcome.{WriteOutcome as Outcome}
+use Rattle.art_change.specs.declared.writes.WriteOutcome.TheVariants.{New, Present, Gone, Absent, Full, Exhausted, Overlaps, Busy, Crowded}
 use Rattle.art_epoch.specs.declared.limbo.Place.{Place}
 use Rattle.art_epoch.specs.declared.exit.Exit.{Exit}
 use Rattle.art_epoch.specs.declared.exit.Exit.TheVariants as exit

@@ -6,8 +6,8 @@ use Rattle.art_attempt.specs.Attempts.{GoesBy}
 use Rattle.art_attempt.specs.declared.attempts.Case.{Case}
 use Rattle.art_attempt.specs.declared.attempts.Room.{Room}
 use Rattle.art_change.specs.Writes.{HasCause, IsExiting, IsDone}
-use Rattle.art_change.specs.declared.writes.Outcome.{Outcome}
-use Rattle.art_change.specs.declared.writes.Outcome.TheVariants.{New, Present, Gone, Absent, Full, Exhausted, Overlaps, Busy, Crowded}
+use Rattle.art_change.specs.declared.writes.WriteOutcome.{WriteOutcome as Outcome}
+use Rattle.art_change.specs.declared.writes.WriteOutcome.TheVariants.{New, Present, Gone, Absent, Full, Exhausted, Overlaps, Busy, Crowded}
 use Rattle.art_change.specs.declared.writes.Write.{Write}
 use Rattle.art_epoch.specs.declared.limbo.Place.{Place}
 use Rattle.art_epoch.specs.declared.exit.Exit.TheVariants as exit

@@ -16,8 +16,8 @@ use Rattle.art_attempt.specs.declared.attempts.Case.{Case}
 use Rattle.art_attempt.specs.declared.attempts.Room.{Room}
 use Rattle.art_cell.specs.declared.cells.Link.{Link}
 use Rattle.art_change.specs.Writes.{OutcomeBy, gone_by, told_by}
-use Rattle.art_change.specs.declared.writes.Outcome.{Outcome}
-use Rattle.art_change.specs.declared.writes.Outcome.TheVariants.{New, Present, Gone, Absent, Full, Exhausted, Overlaps, Busy, Crowded}
+use Rattle.art_change.specs.declared.writes.WriteOutcome.{WriteOutcome as Outcome}
+use Rattle.art_change.specs.declared.writes.WriteOutcome.TheVariants.{New, Present, Gone, Absent, Full, Exhausted, Overlaps, Busy, Crowded}
 use Rattle.art_epoch.specs.Limbo.{IsLimbo}
 use Rattle.art_epoch.specs.declared.limbo.Place.{Place}
 use Rattle.art_find.specs.declared.findings.Position.{Position}

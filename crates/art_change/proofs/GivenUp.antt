@@ -5,7 +5,7 @@ use Rattle.std.proofs.lemmas.Option.{same_Some, slice_get-get_or}
 use Rattle.std.specs.Prelude.{get_or}
 use Rattle.arrayvec.specs.ArrayVec.{ArrayVec}
 use Rattle.art_attempt.specs.Attempts.{Fits as TryFits, StageFits as AttemptFits, ended_at as try_ended, ending_at, free_at, is_free}
-use Rattle.art_make.specs.Apply.{is_begun}
+use Rattle.art_plan.specs.Apply.{is_begun}
 use Rattle.art_attempt.specs.declared.attempts.Room.{Room}
 use Rattle.art_cell.specs.declared.cells.Cell.TheVariants as cell
 use Rattle.art_cell.specs.declared.cells.Link.{Link}
@@ -17,8 +17,8 @@ use Rattle.art_attempt.specs.declared.attempts.Stage.{Stage as AttemptStage}
 use Rattle.art_attempt.specs.declared.attempts.Stage.TheVariants as attempt
 use Rattle.art_attempt.specs.declared.attempts.Job.TheVariants.{Insert, Remove}
 use Rattle.art_attempt.specs.declared.attempts.Attempt.{Attempt}
-use Rattle.art_change.specs.declared.writes.Outcome.{Outcome}
-use Rattle.art_change.specs.declared.writes.Outcome.TheVariants.{New, Present, Gone, Absent, Full, Exhausted, Overlaps, Busy, Crowded}
+use Rattle.art_change.specs.declared.writes.WriteOutcome.{WriteOutcome as Outcome}
+use Rattle.art_change.specs.declared.writes.WriteOutcome.TheVariants.{New, Present, Gone, Absent, Full, Exhausted, Overlaps, Busy, Crowded}
 use Rattle.art_change.specs.declared.writes.Stage.{Stage}
 use Rattle.art_change.specs.declared.writes.Stage.TheVariants as stages
 use Rattle.art_change.specs.declared.writes.Write.{Write}
@@ -28,10 +28,10 @@ use Rattle.art_epoch.specs.Exit.{ExitFits}
 use Rattle.art_epoch.specs.declared.exit.Exit.{Exit}
 use Rattle.art_epoch.specs.declared.exit.Exit.TheVariants as exit
 use Rattle.art_epoch.specs.declared.stocks.Stock.{Stock}
-use Rattle.art_make.proofs.Committing.{some_words}
-use Rattle.art_make.specs.Apply.{Fits as MakeFits, at_claim, at_fill, at_release, ended_at as make_ended, so_many}
-use Rattle.art_make.specs.declared.apply.Apply.{Apply}
-use Rattle.art_make.specs.declared.apply.Apply.TheVariants.{Upgrading, Claiming, Filling, Writing, Committing, Releasing, ReleasingNode, GivingUp, Ended}
+use Rattle.art_plan.proofs.Committing.{some_words}
+use Rattle.art_plan.specs.Apply.{Fits as MakeFits, at_claim, at_fill, at_release, ended_at as make_ended, so_many}
+use Rattle.art_plan.specs.declared.apply.Apply.{Apply}
+use Rattle.art_plan.specs.declared.apply.Apply.TheVariants.{Upgrading, Claiming, Filling, Writing, Committing, Releasing, ReleasingNode, GivingUp, Ended}
 use Rattle.art_plan.specs.Changes.{filled_at, target_at, targets}
 use Rattle.art_plan.specs.Whole.{HoldsWhole, filled_ends, made_at}
 use Rattle.art_plan.specs.declared.changes.Change.{Change}

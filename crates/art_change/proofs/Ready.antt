@@ -7,8 +7,8 @@ use Rattle.art_change.proofs.Answered.{answered, left_opened}
 use Rattle.art_attempt.specs.Attempts.{IsRoom}
 use Rattle.art_change.specs.Writes.{Fits, IsExiting, IsDone, IsReady, MayWrite, StageFits, ended_at, outcome_at}
 use Rattle.art_change.specs.declared.writes.Write.{Write}
-use Rattle.art_change.specs.declared.writes.Outcome.{Outcome}
-use Rattle.art_change.specs.declared.writes.Outcome.TheVariants.{New, Present, Gone, Absent, Full, Exhausted, Overlaps, Busy, Crowded}
+use Rattle.art_change.specs.declared.writes.WriteOutcome.{WriteOutcome as Outcome}
+use Rattle.art_change.specs.declared.writes.WriteOutcome.TheVariants.{New, Present, Gone, Absent, Full, Exhausted, Overlaps, Busy, Crowded}
 use Rattle.art_change.specs.declared.writes.Stage.{Stage}
 use Rattle.art_change.specs.declared.writes.Stage.TheVariants as stage
 use Rattle.art_epoch.specs.declared.limbo.Place.{Place}

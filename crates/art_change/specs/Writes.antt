@@ -13,8 +13,8 @@ use Rattle.art_attempt.specs.declared.attempts.Ending.{Ending}
 use Rattle.art_attempt.specs.declared.attempts.Ending.TheVariants as ending
 use Rattle.art_attempt.specs.declared.attempts.Job.{Job}
 use Rattle.art_attempt.specs.declared.attempts.Job.TheVariants as job
-use Rattle.art_change.specs.declared.writes.Outcome.{Outcome}
-use Rattle.art_change.specs.declared.writes.Outcome.TheVariants.{New, Present, Gone, Absent, Full, Exhausted, Overlaps, Busy, Crowded}
+use Rattle.art_change.specs.declared.writes.WriteOutcome.{WriteOutcome as Outcome}
+use Rattle.art_change.specs.declared.writes.WriteOutcome.TheVariants.{New, Present, Gone, Absent, Full, Exhausted, Overlaps, Busy, Crowded}
 use Rattle.art_change.specs.declared.writes.Stage.{Stage}
 use Rattle.art_change.specs.declared.writes.Stage.TheVariants as stage
 use Rattle.art_change.specs.declared.writes.Write.{Write}
@@ -34,11 +34,11 @@ use Rattle.art_plan.specs.Insert.Puts.{inserted}
 use Rattle.art_plan.specs.declared.insert.NewLeaf.{NewLeaf}
 use Rattle.art_find.specs.declared.findings.Position.{Position}
 use Rattle.art_find.specs.Verdicts.{HasOverlap}
-use Rattle.art_machine.specs.declared.actions.Action.{Action}
-use Rattle.art_machine.specs.declared.actions.Action.TheVariants.{Free}
-use Rattle.art_machine.specs.Acting as acting
-use Rattle.art_machine.specs.declared.actions.Answer.{Answer}
-use Rattle.art_machine.specs.declared.actions.Effects.{Effects}
+use Rattle.art_step.specs.declared.actions.Action.{Action}
+use Rattle.art_step.specs.declared.actions.Action.TheVariants.{Free}
+use Rattle.art_step.specs.Acting as acting
+use Rattle.art_step.specs.declared.actions.Answer.{Answer}
+use Rattle.art_step.specs.declared.actions.Effects.{Effects}
 use Rattle.art_plan.specs.declared.changes.Change.{Change}
 use Rattle.art_plan.specs.Remove.Removals.{removed}
 use Rattle.art_plan.specs.declared.remove.OldLeaf.{OldLeaf}

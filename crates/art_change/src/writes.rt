@@ -8,8 +8,8 @@ ghost use Rattle.art_change.specs.Writes.{Answers, Fits, HasAnswered, HasBegun, 
 ghost use Rattle.art_change.specs.Writes.{HasEntered, HasNoFrame, IsSameWrite, IsTrying, IsUntried, MayWrite, OutcomeBy, OverlapsBy, RestartsBy, SameRow, WasOpened};
 ghost use Rattle.art_change.specs.Writes.{HoldsOrTold, WillRefuse, freed_by, given, is_refusal, turns_used, asks, ended_at, gone_by};
 ghost use Rattle.art_change.specs.Writes.{most_steps, or_busy, outcome_in, outcome_of, steps_left, NoneOverlaps};
-ghost use Rattle.art_change.specs.declared.writes.Outcome.{Outcome as OutcomeOf};
-ghost use Rattle.art_change.specs.declared.writes.Outcome.TheVariants.{Overlaps as overlaps};
+ghost use Rattle.art_change.specs.declared.writes.WriteOutcome.{WriteOutcome as OutcomeOf};
+ghost use Rattle.art_change.specs.declared.writes.WriteOutcome.TheVariants.{Overlaps as overlaps};
 ghost use Rattle.art_change.specs.declared.writes.Stage.TheVariants as stages;
 ghost use Rattle.art_epoch.specs.Enter.{HasEnded};
 ghost use Rattle.art_epoch.specs.Limbo.{places_of};
@@ -17,8 +17,8 @@ ghost use Rattle.art_epoch.specs.declared.limbo.Place.{Place};
 ghost use Rattle.art_epoch.specs.declared.enter.Enter.{Enter as EnterOf};
 ghost use Rattle.art_epoch.specs.declared.exit.Exit.{Exit as ExitOf};
 ghost use Rattle.art_epoch.specs.declared.stocks.Stock.{Stock as StockOf};
-ghost use Rattle.art_machine.specs.Acting.{PassesAmong};
-ghost use Rattle.art_machine.specs.declared.actions.Action.{Action as ActionOf};
+ghost use Rattle.art_step.specs.Acting.{PassesAmong};
+ghost use Rattle.art_step.specs.declared.actions.Action.{Action as ActionOf};
 ghost use Rattle.art_step.specs.declared.views.Sizes.{Sizes};
 ghost use Rattle.art_step.specs.declared.views.View.{View};
 ghost use Rattle.art_step.specs.Histories.{AreApart};
@@ -26,13 +26,12 @@ ghost use Rattle.art_step.specs.Histories.{AreApart};
 use art_attempt::{Attempt, Ending, Job, Room, make};
 use art_cell::{Cell, Pool};
 use art_epoch::{Blocker, Enter, Entered, Exit, Limbo};
-use art_machine::{Action, Answer, perform};
 use art_plan::Change;
-use art_step::EpochSteps;
+use art_step::{Action, Answer, EpochSteps, perform};
 
 /// How a write ended.
 #[derive(Clone, Copy, Debug, PartialEq, Eq)]
-pub enum Outcome {
+pub enum WriteOutcome {
     /// The row is in the tree.
     New,
     /// The key is there, and keeps this value.
@@ -61,8 +60,8 @@ pub enum Stage {
     /// An attempt is made.
     Trying(Attempt),
     /// What was unlinked gets its label, what is in hand goes back, the pass goes idle; it will have ended so.
-    Exit { exit: Exit, outcome: Outcome },
-    Ended(Outcome),
+    Exit { exit: Exit, outcome: WriteOutcome },
+    Ended(WriteOutcome),
 }
 
 /// An insert of the row of a room, or a removal of the row with its key. The room and the limbo of the pass stand beside it.
@@ -143,7 +142,7 @@ impl Write {
     }
 
     /// How it ended, if it has.
-    pub fn ended(&self) -> Option<Outcome>
+    pub fn ended(&self) -> Option<WriteOutcome>
         ensures at { result ≡ ended_at self.now }
         ensures answered { IfSome result (λ o. (z : Sizes) (u v : View) (ps qs : List Place) (r : RoomOf) →
             Fits z u ps self.now r qs v → HasAnswered z u self.now.job o r.row.key r.row.value qs v) }
@@ -210,7 +209,7 @@ impl Write {
         }
         self.turns = self.turns.saturating_sub(self.left);
         self.left = 0;
-        self.begin_exit(room, Outcome::Busy);
+        self.begin_exit(room, WriteOutcome::Busy);
         true
     }
 
@@ -298,7 +297,7 @@ impl Write {
     {
         match entered {
             Entered::Pinned => self.go_on(room),
-            Entered::Crowded(blocker) => self.stage = Stage::Ended(Outcome::Crowded(blocker)),
+            Entered::Crowded(blocker) => self.stage = Stage::Ended(WriteOutcome::Crowded(blocker)),
         }
     }
 
@@ -316,14 +315,14 @@ impl Write {
             opened.steps + self.old.turns ≤ v.steps + self.old.left → Fits z u ps self.new room.now qs v }
     {
         if self.left == 0 {
-            self.begin_exit(room, Outcome::Busy);
+            self.begin_exit(room, WriteOutcome::Busy);
             return;
         }
         self.stage = Stage::Trying(Attempt::new(self.job));
     }
 
     /// The last attempt has ended so: the frame is closed.
-    fn begin_exit(&mut self, room: &Room, outcome: Outcome)
+    fn begin_exit(&mut self, room: &Room, outcome: WriteOutcome)
         ensures going { (ended_at self.new ≡ None) × HasEntered self.new.stage }
         ensures refuses { is_refusal outcome ≡ true → WillRefuse self.new }
         ensures job { self.new.job ≡ self.old.job }
@@ -518,7 +517,7 @@ impl Write {
         };
         if self.left == 0 {
             if attempt.is_free() {
-                self.begin_exit(room, Outcome::Busy);
+                self.begin_exit(room, WriteOutcome::Busy);
             }
         }
     }
@@ -586,47 +585,51 @@ fn note_given(room: &mut Room, asked: Action)
 }
 
 /// The child words of what the change unlinked, where it was made.
-fn gone_by(outcome: Outcome, change: &Change) -> &[u64]
+fn gone_by(outcome: WriteOutcome, change: &Change) -> &[u64]
     ensures words { result.now ≡ gone_by outcome change.now }
     ensures few { length result.now ≤ 3 }
 {
     match outcome {
-        Outcome::New | Outcome::Gone(_) => change.effects.unlinked.as_slice(),
+        WriteOutcome::New | WriteOutcome::Gone(_) => change.effects.unlinked.as_slice(),
         _ => &[],
     }
 }
 
 /// How the write ends by how an attempt did, if it does not try anew.
-fn outcome_of(left: u32, ending: Ending) -> Option<Outcome>
+fn outcome_of(left: u32, ending: Ending) -> Option<WriteOutcome>
     ensures { result ≡ outcome_of left ending }
 {
     match ending {
-        Ending::New => Some(Outcome::New),
-        Ending::Present(value) => Some(Outcome::Present(value)),
-        Ending::Gone(value) => Some(Outcome::Gone(value)),
-        Ending::Absent => Some(Outcome::Absent),
-        Ending::Full(pool) => Some(or_busy(left, Outcome::Full(pool))),
-        Ending::Exhausted(cell) => Some(Outcome::Exhausted(cell)),
-        Ending::Overlaps => Some(or_busy(left, Outcome::Overlaps)),
+        Ending::New => Some(WriteOutcome::New),
+        Ending::Present(value) => Some(WriteOutcome::Present(value)),
+        Ending::Gone(value) => Some(WriteOutcome::Gone(value)),
+        Ending::Absent => Some(WriteOutcome::Absent),
+        Ending::Full(pool) => Some(or_busy(left, WriteOutcome::Full(pool))),
+        Ending::Exhausted(cell) => Some(WriteOutcome::Exhausted(cell)),
+        Ending::Overlaps => Some(or_busy(left, WriteOutcome::Overlaps)),
         Ending::Restart => None,
     }
 }
 
 /// Whether nothing was told.
-fn is_refusal(outcome: Outcome) -> bool
+fn is_refusal(outcome: WriteOutcome) -> bool
     ensures { result ≡ is_refusal outcome }
 {
     !matches!(
         outcome,
-        Outcome::New | Outcome::Present(_) | Outcome::Gone(_) | Outcome::Absent
+        WriteOutcome::New | WriteOutcome::Present(_) | WriteOutcome::Gone(_) | WriteOutcome::Absent
     )
 }
 
 /// A refusal at the last turn is none: the turns were used.
-fn or_busy(left: u32, outcome: Outcome) -> Outcome
+fn or_busy(left: u32, outcome: WriteOutcome) -> WriteOutcome
     ensures { result ≡ or_busy left outcome }
 {
-    if left == 0 { Outcome::Busy } else { outcome }
+    if left == 0 {
+        WriteOutcome::Busy
+    } else {
+        outcome
+    }
 }
 
 /// What was asked, and what was answered. It was one step, or none where the counter of a cell that was to be locked is at its end.

@@ -5,14 +5,14 @@ use Rattle.std.proofs.lemmas.Option.{same_Some}
 use Rattle.std.specs.List.{remove}
 use Rattle.std.specs.Option.{option_and_then}
 use Rattle.std.specs.Prelude.{Option, Some, None}
-use Rattle.art_machine.proofs.Words.{done_row, word_row}
-use Rattle.art_machine.specs.Acting.{Answers, word_in}
-use Rattle.art_machine.specs.declared.actions.Answer.{Answer}
+use Rattle.art_step.proofs.Words.{done_row, word_row}
+use Rattle.art_step.specs.Acting.{Answers, word_in}
+use Rattle.art_step.specs.declared.actions.Answer.{Answer}
 use Rattle.art_epoch.specs.Limbo.{lets_go, no_place, open_index}
 use Rattle.art_epoch.specs.Pins.{view_advanced}
 use Rattle.art_epoch.specs.Reclaiming.{Fits, IsLeast, IsWatched, IsWatching, Look, MayGo, Reclaims, StageFits, asks_at, least_after, least_at, lower, others, places_after, skip, stage_after, view_watched, watching}
-use Rattle.art_machine.specs.declared.actions.Action.{Action}
-use Rattle.art_machine.specs.declared.actions.Action.TheVariants.{Free, ReadEpoch, RaiseEpoch, ReadPin}
+use Rattle.art_step.specs.declared.actions.Action.{Action}
+use Rattle.art_step.specs.declared.actions.Action.TheVariants.{Free, ReadEpoch, RaiseEpoch, ReadPin}
 use Rattle.art_epoch.specs.declared.limbo.Place.{Place}
 use Rattle.art_epoch.specs.declared.limbo.ReclaimStage.{ReclaimStage}
 use Rattle.art_epoch.specs.declared.limbo.ReclaimStage.TheVariants.{Noting, Raising, Watching, Freeing}

@@ -2,13 +2,13 @@
 use Rattle.std.proofs.Common.{◌≡◌, ℕ, ◌+◌, ◌<◌, List, [], ◌∷◌, ◌++◌, inl, refl, sym, ap, ◌∙◌, subst, arith, append-nil}
 use Rattle.std.specs.Prelude.{Option, Some, None}
 use Rattle.art_cell.specs.declared.cells.Link.{Link}
-use Rattle.art_machine.proofs.Words.{done_row}
-use Rattle.art_machine.specs.Acting.{Answers, IsAllowed}
-use Rattle.art_machine.specs.declared.actions.Answer.{Answer}
-use Rattle.art_machine.specs.declared.actions.Action.TheVariants.{GiveBack, StorePin}
+use Rattle.art_step.proofs.Words.{done_row}
+use Rattle.art_step.specs.Acting.{Answers, IsAllowed}
+use Rattle.art_step.specs.declared.actions.Answer.{Answer}
+use Rattle.art_step.specs.declared.actions.Action.TheVariants.{GiveBack, StorePin}
 use Rattle.art_epoch.specs.Limbo.{IsLimbo, places_for}
 use Rattle.art_epoch.specs.Reclaiming.{Retires}
-use Rattle.art_machine.specs.declared.actions.Action.{Action}
+use Rattle.art_step.specs.declared.actions.Action.{Action}
 use Rattle.art_epoch.specs.declared.limbo.Place.{Place}
 use Rattle.art_epoch.specs.Exit.{ExitFits, IsClosed, IsGiving, MayClose, gives_link, stage_of, steps_left, without_link}
 use Rattle.art_epoch.specs.Stocks.{GoesFirst, count_in, first_in, without}

@@ -1,8 +1,9 @@
 -- the crates below, for those above to name
-pub use Rattle.art_make.proofs as ArtMake
+pub use Rattle.art_plan.proofs as ArtPlan
 mod Blocking
 mod Closes
 pub mod Opens
+pub mod PackedLeaves
 pub mod Pinned
 pub mod Reclaimed
 pub mod Searching

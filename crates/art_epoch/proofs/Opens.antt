@@ -2,15 +2,15 @@
 use Rattle.std.proofs.Common.{◌≡◌, ℕ, get_or, ◌+◌, ◌<◌, ◌≤◌, Bool, true, false, if◌then◌else◌, nat_lt, List, [], ◌∷◌, length, inr, sym, refl, ap, ◌∙◌, subst, arith, ltb-true, ltb-false}
 use Rattle.std.proofs.lemmas.Bool.{lt-ltb, ne_eqb}
 use Rattle.std.specs.Prelude.{Option, Some, None}
-use Rattle.art_machine.specs.Acting.{Answers, word_in}
-use Rattle.art_machine.specs.declared.actions.Answer.{Answer}
+use Rattle.art_step.specs.Acting.{Answers, word_in}
+use Rattle.art_step.specs.declared.actions.Answer.{Answer}
 use Rattle.art_epoch.specs.Limbo.{IsLimbo, no_place, open_index}
 use Rattle.art_epoch.specs.Pins as pins
 use Rattle.art_epoch.specs.Pins.{MayPin, Pins}
 use Rattle.art_epoch.specs.Reclaiming as reclaims
 use Rattle.art_epoch.specs.Reclaiming.{OnlyReclaims, Reclaims, asks_at, least_at, places_after}
-use Rattle.art_machine.specs.declared.actions.Action.{Action}
-use Rattle.art_machine.specs.declared.actions.Action.TheVariants.{Free, ReadEpoch}
+use Rattle.art_step.specs.declared.actions.Action.{Action}
+use Rattle.art_step.specs.declared.actions.Action.TheVariants.{Free, ReadEpoch}
 use Rattle.art_epoch.specs.declared.limbo.Place.{Place}
 use Rattle.art_epoch.specs.declared.enter.Pinning.{Pinning}
 use Rattle.art_epoch.specs.declared.enter.Pinning.TheVariants.{Noting}

@@ -1,7 +1,7 @@
 -- An epoch that was noted may be stored, and raised; a pass that is being pinned has locked and told nothing more.
 use Rattle.std.proofs.Common.{◌≡◌, ℕ, ◌+◌, ◌^◌, ◌<◌, Some, inr, sym, refl, ap, subst}
 use Rattle.art_epoch.specs.Pins.{Fits, IsNoting, asks}
-use Rattle.art_machine.specs.declared.actions.Action.{Action}
+use Rattle.art_step.specs.declared.actions.Action.{Action}
 use Rattle.art_epoch.specs.declared.enter.Pinning.{Pinning}
 use Rattle.art_epoch.specs.declared.enter.Pinning.TheVariants.{Noting, Storing, Ended}
 use Rattle.art_step.specs.declared.views.Sizes.{Sizes}

@@ -5,14 +5,14 @@ use Rattle.std.proofs.lemmas.List.Edits.{length-remove}
 use Rattle.std.proofs.lemmas.Option.{same_Some}
 use Rattle.std.specs.List.{remove}
 use Rattle.std.specs.Prelude.{Option, Some, None}
-use Rattle.art_machine.proofs.Words.{done_row, is_word, word_row}
-use Rattle.art_machine.specs.Acting.{Answers, IsWord, word_in}
-use Rattle.art_machine.specs.declared.actions.Answer.{Answer}
+use Rattle.art_step.proofs.Words.{done_row, is_word, word_row}
+use Rattle.art_step.specs.Acting.{Answers, IsWord, word_in}
+use Rattle.art_step.specs.declared.actions.Answer.{Answer}
 use Rattle.art_epoch.specs.Limbo.{IsLimbo, lets_go, no_place, open_index}
 use Rattle.art_epoch.specs.Pins.{view_advanced}
 use Rattle.art_epoch.specs.Reclaiming.{HearsWord, Fits, IsBelowAll, IsFreeing, IsLeast, IsRaising, IsStage, IsWatched, IsWatching, Look, MayGo, OnlyReclaims, Reclaims, StageFits, asks_at, freed_at, least_after, lower, others, places_after, skip, stage_after, steps_left, view_watched, watching}
-use Rattle.art_machine.specs.declared.actions.Action.{Action}
-use Rattle.art_machine.specs.declared.actions.Action.TheVariants.{Free, ReadEpoch, RaiseEpoch, ReadPin}
+use Rattle.art_step.specs.declared.actions.Action.{Action}
+use Rattle.art_step.specs.declared.actions.Action.TheVariants.{Free, ReadEpoch, RaiseEpoch, ReadPin}
 use Rattle.art_epoch.specs.declared.limbo.Place.{Place}
 use Rattle.art_epoch.specs.declared.limbo.ReclaimStage.{ReclaimStage}
 use Rattle.art_epoch.specs.declared.limbo.ReclaimStage.TheVariants.{Noting, Raising, Watching, Freeing}

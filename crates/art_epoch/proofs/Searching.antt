@@ -6,13 +6,13 @@ use Rattle.std.proofs.lemmas.Option.{same_Some}
 use Rattle.std.specs.Int.{trailing_zeros}
 use Rattle.std.specs.Prelude.{Option, Some, None, IfSome}
 use Rattle.art_cell.specs.declared.cells.Pool.{Pool}
-use Rattle.art_machine.proofs.Words.{is_word, word_row}
-use Rattle.art_machine.specs.Acting.{Answers, FindsWord as IsHeard, IsWord, word_in}
-use Rattle.art_machine.specs.declared.actions.Answer.{Answer}
-use Rattle.art_machine.specs.declared.actions.Answer.TheVariants.{Word}
+use Rattle.art_step.proofs.Words.{is_word, word_row}
+use Rattle.art_step.specs.Acting.{Answers, FindsWord as IsHeard, IsWord, word_in}
+use Rattle.art_step.specs.declared.actions.Answer.{Answer}
+use Rattle.art_step.specs.declared.actions.Answer.TheVariants.{Word}
 use Rattle.art_epoch.specs.Taking.{Fits, GaveNone, IsLowest, IsSearch, IsSeen, MadeFew, NoneAround, OnlyTakes, SearchFits, TookFirst, TookNone, WasFound, WasLost, after_clear, after_look, around, asks, asks_at, looks_made, search_after, steps_left}
-use Rattle.art_machine.specs.declared.actions.Action.{Action}
-use Rattle.art_machine.specs.declared.actions.Action.TheVariants.{ClearBit}
+use Rattle.art_step.specs.declared.actions.Action.{Action}
+use Rattle.art_step.specs.declared.actions.Action.TheVariants.{ClearBit}
 use Rattle.art_epoch.specs.declared.stocks.Search.{Search}
 use Rattle.art_epoch.specs.declared.stocks.Search.TheVariants.{Looking, Clearing, Took}
 use Rattle.art_epoch.specs.declared.stocks.Taking.{Taking}

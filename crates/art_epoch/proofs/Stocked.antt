@@ -12,17 +12,17 @@ use Rattle.art_cell.specs.declared.cells.Node.{Node}
 use Rattle.art_cell.specs.declared.cells.Layout.{Layout}
 use Rattle.art_cell.specs.declared.cells.Layout.TheVariants.{Node4, Node16, Node48, Node256}
 use Rattle.art_cell.specs.declared.cells.Pool.TheVariants.{Leaves}
-use Rattle.art_make.specs.ArtCommit.CommitLaws.{HasNode}
+use Rattle.art_plan.specs.ArtCommit.CommitLaws.{HasNode}
 use Rattle.art_epoch.specs.Taking.{TookLowest}
 use Rattle.art_epoch.specs.Stocks.{AreIn, GoesFirst, HasRankBy, HasStock, IsIn, count_in, earlier, first_in, first_layout, first_node, has_node, hinted, hinted_at, is_before, next_rank, node_in, node_link, nothing, one_of, rank_in, ranked_node, set_node, with_leaf, with_node, without, without_all, words_written}
 use Rattle.art_epoch.specs.declared.stocks.Hints.{Hints}
 use Rattle.art_epoch.specs.declared.stocks.RankedNode.{RankedNode}
 use Rattle.art_epoch.specs.declared.stocks.Stock.{Stock}
-use Rattle.art_make.specs.Apply.{IsCommitted, linked}
-use Rattle.art_make.specs.LeafWriter.{IsPacked}
-use Rattle.art_make.specs.ArtPlan.Changes.{node_made}
-use Rattle.art_make.specs.ArtPlan.Whole.{node_copied}
-use Rattle.art_make.specs.ArtPlan.declared.changes.Change.{Change}
+use Rattle.art_plan.specs.Apply.{IsCommitted, linked}
+use Rattle.art_epoch.specs.LeafWriter.{IsPacked}
+use Rattle.art_plan.specs.Changes.{node_made}
+use Rattle.art_plan.specs.Whole.{node_copied}
+use Rattle.art_plan.specs.declared.changes.Change.{Change}
 use Rattle.art_step.specs.Steps.Give.{HandsOver}
 use Rattle.art_step.specs.Steps.Take.{word_count_of}
 use Rattle.art_step.specs.Views.{IsInHand, IsNotInHand, IsNumber, Member, pool_of_layout}

@@ -6,8 +6,8 @@ use Rattle.art_epoch.specs.Pins as pins
 use Rattle.art_epoch.specs.Pins.{MayPin, Pins}
 use Rattle.art_epoch.specs.Reclaiming as reclaims
 use Rattle.art_epoch.specs.Reclaiming.{Look, OnlyReclaims, Reclaims, least_at, places_after, stage_after}
-use Rattle.art_machine.specs.declared.actions.Action.{Action}
-use Rattle.art_machine.specs.declared.actions.Action.TheVariants.{ReadPin}
+use Rattle.art_step.specs.declared.actions.Action.{Action}
+use Rattle.art_step.specs.declared.actions.Action.TheVariants.{ReadPin}
 use Rattle.art_epoch.specs.declared.limbo.Place.{Place}
 use Rattle.art_epoch.specs.declared.enter.Pinning.{Pinning}
 use Rattle.art_epoch.specs.declared.enter.Pinning.TheVariants.{Noting}

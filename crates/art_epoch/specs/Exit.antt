@@ -3,8 +3,8 @@
 use Rattle.std.specs.Prelude.{◌≡◌, ℕ, ◌+◌, ◌^◌, ◌<◌, ◌≤◌, List, [], ◌∷◌, ◌++◌, length, Bool, true, false, Option, Some, None}
 use Rattle.art_cell.specs.declared.cells.Link.{Link}
 use Rattle.art_epoch.specs.Limbo.{IsLimbo, places_for}
-use Rattle.art_machine.specs.declared.actions.Action.{Action}
-use Rattle.art_machine.specs.declared.actions.Action.TheVariants.{GiveBack, ReadEpoch, StorePin}
+use Rattle.art_step.specs.declared.actions.Action.{Action}
+use Rattle.art_step.specs.declared.actions.Action.TheVariants.{GiveBack, ReadEpoch, StorePin}
 use Rattle.art_epoch.specs.declared.limbo.Place.{Place}
 use Rattle.art_epoch.specs.Stocks.{HasStock, count_in, first_in, without}
 use Rattle.art_epoch.specs.declared.exit.Exit.{Exit}

@@ -1,7 +1,7 @@
 -- Pinning a pass, and raising the epoch.
 use Rattle.std.specs.Prelude.{◌≡◌, ℕ, ◌+◌, ◌^◌, ◌<◌, [], nat_lt, if◌then◌else◌, Option, Some, None}
-use Rattle.art_machine.specs.declared.actions.Action.{Action}
-use Rattle.art_machine.specs.declared.actions.Action.TheVariants.{ReadEpoch, StorePin}
+use Rattle.art_step.specs.declared.actions.Action.{Action}
+use Rattle.art_step.specs.declared.actions.Action.TheVariants.{ReadEpoch, StorePin}
 use Rattle.art_epoch.specs.declared.enter.Pinning.{Pinning}
 use Rattle.art_epoch.specs.declared.enter.Pinning.TheVariants.{Noting, Storing, Ended}
 use Rattle.art_step.specs.declared.views.Sizes.{Sizes}

@@ -8,11 +8,11 @@ use Rattle.art_cell.specs.declared.cells.Layout.{Layout}
 use Rattle.art_cell.specs.declared.cells.Layout.TheVariants.{Node4, Node16, Node48, Node256}
 use Rattle.art_cell.specs.declared.cells.Pool.{Pool}
 use Rattle.art_cell.specs.declared.cells.Pool.TheVariants.{Leaves, N4, N16, N48, N256}
-use Rattle.art_make.specs.ArtCommit.CommitLaws.{HasNode}
+use Rattle.art_plan.specs.ArtCommit.CommitLaws.{HasNode}
 use Rattle.art_epoch.specs.declared.stocks.Hints.{Hints}
 use Rattle.art_epoch.specs.declared.stocks.RankedNode.{RankedNode}
 use Rattle.art_epoch.specs.declared.stocks.Stock.{Stock}
-use Rattle.art_make.specs.LeafWriter.{IsPacked}
+use Rattle.art_epoch.specs.LeafWriter.{IsPacked}
 use Rattle.art_step.specs.Views.{Member}
 use Rattle.art_step.specs.declared.views.InHand.{InHand}
 use Rattle.art_step.specs.WordPlaces.{free_words}

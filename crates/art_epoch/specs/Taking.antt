@@ -4,8 +4,8 @@ use Rattle.std.proofs.Common.{w64}
 use Rattle.std.specs.Int.{trailing_zeros}
 use Rattle.art_cell.specs.declared.cells.Link.{Link}
 use Rattle.art_cell.specs.declared.cells.Pool.{Pool}
-use Rattle.art_machine.specs.declared.actions.Action.{Action}
-use Rattle.art_machine.specs.declared.actions.Action.TheVariants.{ClearBit}
+use Rattle.art_step.specs.declared.actions.Action.{Action}
+use Rattle.art_step.specs.declared.actions.Action.TheVariants.{ClearBit}
 use Rattle.art_epoch.specs.declared.stocks.Search.{Search}
 use Rattle.art_epoch.specs.declared.stocks.Search.TheVariants.{Looking, Clearing, Took}
 use Rattle.art_epoch.specs.declared.stocks.Taking.{Taking}

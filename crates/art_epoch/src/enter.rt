@@ -1,12 +1,12 @@
 //! The opening of an attempt: what waits in limbo goes back, and the pass is pinned.
 ghost use Rattle.std.specs.Prelude.{◌≡◌, ◌+◌, ◌-◌, ◌<◌, ◌≤◌, length, Some, None, ℕ, List, IfSome, []};
 ghost use Rattle.std.specs.Option.{option_and_then};
-ghost use Rattle.art_machine.specs.Acting.{Answers, IsAllowed, IsWord, word_in};
+ghost use Rattle.art_step.specs.Acting.{Answers, IsAllowed, IsWord, word_in};
 ghost use Rattle.art_epoch.specs.Limbo.{places_of};
 ghost use Rattle.art_epoch.specs.Pins as pins;
 ghost use Rattle.art_epoch.specs.Reclaiming as reclaims;
 ghost use Rattle.art_epoch.specs.Enter.{IsPinnedOn, MayOpen, EnterFits, HasEnded, asks, blocked_by, ended_at, first_label, going_on, reclaimed, steps_left, watched};
-ghost use Rattle.art_machine.specs.declared.actions.Action.{Action as ActionOf};
+ghost use Rattle.art_step.specs.declared.actions.Action.{Action as ActionOf};
 ghost use Rattle.art_epoch.specs.declared.limbo.Place.{Place as PlaceOf};
 ghost use Rattle.art_step.specs.declared.views.Sizes.{Sizes};
 ghost use Rattle.art_step.specs.declared.views.View.{View};
@@ -16,8 +16,7 @@ ghost use Rattle.art_step.specs.Steps.Pin as pin;
 ghost use Rattle.art_step.specs.Tokens.{link_of_number};
 
 use crate::{Limbo, Place, Reclaiming, lets_go};
-use art_machine::{Action, Answer, perform};
-use art_step::{EpochSteps, Number};
+use art_step::{Action, Answer, EpochSteps, Number, perform};
 
 /// How many places a limbo has.
 const PLACES: u32 = 64;
@@ -56,7 +55,7 @@ pub enum Enter {
 }
 
 impl Enter {
-    ghost use Rattle.art_machine.specs.declared.actions.Action.TheVariants.{ReadEpoch as read_epoch};
+    ghost use Rattle.art_step.specs.declared.actions.Action.TheVariants.{ReadEpoch as read_epoch};
 
     /// Of the pass `own`, of so many.
     pub fn new(own: u32, passes: u32, limbo: &Limbo) -> Enter
@@ -241,8 +240,8 @@ pub enum Pinning {
 
 impl Pinning {
     ghost use Rattle.std.specs.Prelude.{ℕ, Some};
-    ghost use Rattle.art_machine.specs.declared.actions.Action.{Action as ActionOf};
-    ghost use Rattle.art_machine.specs.declared.actions.Action.TheVariants.{ReadEpoch as read_epoch};
+    ghost use Rattle.art_step.specs.declared.actions.Action.{Action as ActionOf};
+    ghost use Rattle.art_step.specs.declared.actions.Action.TheVariants.{ReadEpoch as read_epoch};
     ghost use Rattle.art_step.specs.declared.views.Sizes.{Sizes};
     ghost use Rattle.art_step.specs.declared.views.View.{View};
 

@@ -1,12 +1,12 @@
 //! The close of an attempt.
 ghost use Rattle.std.specs.Prelude.{◌≡◌, ◌+◌, ◌<◌, ◌≤◌, ℕ, List, IfSome, None, Some, length, true};
 ghost use Rattle.art_cell.specs.declared.cells.Link.{Link as LinkOf};
-ghost use Rattle.art_machine.specs.Acting.{Answers, IsAllowed};
+ghost use Rattle.art_step.specs.Acting.{Answers, IsAllowed};
 ghost use Rattle.art_epoch.specs.Limbo.{IsLimbo, places_of};
 ghost use Rattle.art_epoch.specs.Reclaiming.{Retires};
-ghost use Rattle.art_machine.specs.declared.actions.Action.{Action as ActionOf};
-ghost use Rattle.art_machine.specs.declared.actions.Action.TheVariants.{GiveBack as give_back, ReadEpoch as read_epoch};
-ghost use Rattle.art_machine.specs.declared.actions.Answer.TheVariants.{Word as word_told};
+ghost use Rattle.art_step.specs.declared.actions.Action.{Action as ActionOf};
+ghost use Rattle.art_step.specs.declared.actions.Action.TheVariants.{GiveBack as give_back, ReadEpoch as read_epoch};
+ghost use Rattle.art_step.specs.declared.actions.Answer.TheVariants.{Word as word_told};
 ghost use Rattle.art_epoch.specs.declared.limbo.Place.{Place};
 ghost use Rattle.art_epoch.specs.Exit.{ExitFits, IsClosed, MayClose, asks, begins, gives, is_ended, stage_given, steps_left, stock_given};
 ghost use Rattle.art_epoch.specs.Stocks.{GoesFirst, first_in};
@@ -17,8 +17,7 @@ ghost use Rattle.art_step.specs.declared.views.Sizes.{Sizes};
 ghost use Rattle.art_step.specs.declared.views.View.{View};
 
 use crate::{Limbo, Retiring, Stock};
-use art_machine::{Action, Answer};
-use art_step::numbers_of;
+use art_step::{Action, Answer, numbers_of};
 
 /// Closes an attempt: the epoch is noted, which labels what was unlinked; each number that is still in hand goes back; then the
 /// pass goes idle. The limbo and the numbers in hand stand beside it.

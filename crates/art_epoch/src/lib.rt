@@ -44,7 +44,7 @@
 //! # Machines
 //!
 //! Taking, pinning, retiring and reclaiming are machines: values that name no carrier. `next` is the step that a machine
-//! asks for (an `Action` of `art_machine`), or none where it has ended; `perform` makes it, on whatever carrier; `told` hands the
+//! asks for (an `Action` of `art_step`), or none where it has ended; `perform` makes it, on whatever carrier; `told` hands the
 //! machine the answer. So a pass may make one step at each of its turns, with those of others in between. What a machine knows
 //! of the view between two steps is its `Fits`: `new` begins with it, and `told` keeps it, whoever made the step. Retiring
 //! is one step, and needs none.
@@ -99,6 +99,9 @@
 //! memory of the pass for what its view calls the hand (`HasStock`): just these numbers are there. An attempt that fails begins
 //! anew with them; what a commit links is taken out (`spend_leaf`, `spend_node`).
 //!
+//! The words of a leaf are written while its number is in hand and nobody can see it, before anything is locked: `LeafWriter`
+//! writes the ten of them, one after another. They stay written where an attempt fails.
+//!
 //! `Exit` notes the epoch first, if something was unlinked, before anything else finds one: it labels what came to limbo.
 //! Then the numbers of the stock go back, the leaf and then the nodes in the order in which they were taken, each in one step, and
 //! without a look at any other. Last, 0 is stored.
@@ -128,10 +131,12 @@
 
 mod enter;
 mod exit;
+mod leaf_writer;
 mod limbo;
 mod stocks;
 
 pub use enter::{Blocker, Enter, Entered, Pinning, advance, give, pin, unpin};
 pub use exit::Exit;
+pub use leaf_writer::LeafWriter;
 pub use limbo::{Limbo, Place, ReclaimStage, Reclaiming, Retiring, lets_go, reclaim, retire};
 pub use stocks::{Search, Stock, Taking, take};

@@ -3,15 +3,14 @@ ghost use Rattle.std.specs.Prelude.{◌≡◌, ◌+◌, ◌<◌, ◌≤◌, ◌+
 ghost use Rattle.std.specs.Option.{option_map};
 ghost use Rattle.art_epoch.specs.Limbo.{lets_go, no_place, open_index, place_for, places_for, places_of, IsLimbo};
 ghost use Rattle.art_step.specs.Tokens.{link_of_number};
-ghost use Rattle.art_machine.specs.Acting.{Answers, IsAllowed, IsWord, word_in};
+ghost use Rattle.art_step.specs.Acting.{Answers, IsAllowed, IsWord, word_in};
 ghost use Rattle.art_epoch.specs.Reclaiming.{Fits, HearsWord, IsStage, MayGo, OnlyReclaims, Reclaims, Retires, asks_at, freed_at, least_after, least_at, places_after, stage_after, steps_left, watches_at, watching};
 ghost use Rattle.art_epoch.specs.declared.limbo.ReclaimStage.TheVariants.{Noting as noting};
 
 use crate::enter::TOP;
 use arrayvec::ArrayVec;
 use art_cell::Link;
-use art_machine::{Action, Answer, perform};
-use art_step::{EpochSteps, Number, Unlinked, spent};
+use art_step::{Action, Answer, EpochSteps, Number, Unlinked, perform, spent};
 
 /// How many numbers may wait.
 const PLACES: usize = 64;
@@ -144,8 +143,8 @@ pub struct Reclaiming {
 
 impl Reclaiming {
     ghost use Rattle.std.specs.Prelude.{ℕ, List, Some};
-    ghost use Rattle.art_machine.specs.declared.actions.Action.{Action as ActionOf};
-    ghost use Rattle.art_machine.specs.declared.actions.Action.TheVariants.{ReadEpoch as read_epoch};
+    ghost use Rattle.art_step.specs.declared.actions.Action.{Action as ActionOf};
+    ghost use Rattle.art_step.specs.declared.actions.Action.TheVariants.{ReadEpoch as read_epoch};
     ghost use Rattle.art_epoch.specs.declared.limbo.Place.{Place};
     ghost use Rattle.art_step.specs.declared.views.Sizes.{Sizes};
     ghost use Rattle.art_step.specs.declared.views.View.{View};
@@ -337,8 +336,8 @@ pub struct Retiring;
 
 impl Retiring {
     ghost use Rattle.std.specs.Prelude.{List};
-    ghost use Rattle.art_machine.specs.declared.actions.Answer.TheVariants.{Word as word_told};
-    ghost use Rattle.art_machine.specs.declared.actions.Action.TheVariants.{ReadEpoch as read_epoch};
+    ghost use Rattle.art_step.specs.declared.actions.Answer.TheVariants.{Word as word_told};
+    ghost use Rattle.art_step.specs.declared.actions.Action.TheVariants.{ReadEpoch as read_epoch};
     ghost use Rattle.art_step.specs.declared.views.Sizes.{Sizes};
     ghost use Rattle.art_step.specs.declared.views.View.{View};
 

@@ -1,13 +1,12 @@
 //! The numbers that a pass has in hand, and how it takes one.
 ghost use Rattle.std.specs.Prelude.{◌≡◌, ◌<◌, ◌^◌, true, ◌+◌, ◌*◌, ◌≤◌, IfSome, Some, None};
 ghost use Rattle.art_epoch.specs.Stocks.{ComesLast, first_hints, first_word, is_before, nothing, rank_after, with_leaf, with_node};
-ghost use Rattle.art_machine.specs.Acting.{Answers, IsAllowed};
+ghost use Rattle.art_step.specs.Acting.{Answers, IsAllowed};
 ghost use Rattle.art_epoch.specs.Taking.{Fits, IsSearch, MadeFew, OnlyTakes, Takes, after_clear, after_look, around, asks, search_after};
 ghost use Rattle.art_step.specs.WordPlaces.{free_words, pool_size};
 
 use art_cell::{Layout, Link, Node, Pool};
-use art_machine::{Action, Answer, perform};
-use art_step::{EpochSteps, Number, Sizes, free_words};
+use art_step::{Action, Answer, EpochSteps, Number, Sizes, free_words, perform};
 
 /// The word of free numbers of each pool at which a pass begins to search it: that of the number that it took or gave back last. So
 /// what comes back is taken again at once, and the words in use stay few.
@@ -330,7 +329,7 @@ impl Taking {
     ghost use Rattle.std.specs.Prelude.{ℕ};
     ghost use Rattle.art_step.specs.declared.views.Sizes.{Sizes};
     ghost use Rattle.art_step.specs.declared.views.View.{View};
-    ghost use Rattle.art_machine.specs.declared.actions.Action.{Action as ActionOf};
+    ghost use Rattle.art_step.specs.declared.actions.Action.{Action as ActionOf};
 
     /// A number of this pool, from its first word on.
     pub fn new(pool: Pool, sizes: Sizes) -> Taking

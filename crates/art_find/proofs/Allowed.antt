@@ -9,7 +9,7 @@ use Rattle.art_cell.specs.declared.cells.Layout.TheVariants.{Node4, Node16, Node
 use Rattle.art_cell.specs.Words.{size}
 use Rattle.art_find.specs.Asking.{MayLook}
 use Rattle.art_find.specs.Descents.{IsAbove, IsOn, StageFits, answer_at, asks}
-use Rattle.art_machine.specs.Acting.{HasPath, WasChecked}
+use Rattle.art_step.specs.Acting.{HasPath, WasChecked}
 use Rattle.art_find.proofs.Stages.{noted_names}
 use Rattle.art_find.proofs.VerdictValues.{says_value}
 use Rattle.art_find.specs.declared.descents.Stage.{Stage}

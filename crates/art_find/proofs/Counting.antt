@@ -2,11 +2,11 @@
 use Rattle.std.proofs.Common.{◌≡◌, ℕ, zero, suc, ◌+◌, ◌*◌, ◌<◌, ◌≤◌, Bool, true, false, List, length, Option, Some, None, refl, subst, arith, ◌∙◌}
 use Rattle.art_cell.specs.declared.cells.Link.{Link}
 use Rattle.art_cell.specs.declared.cells.Link.TheVariants.{Leaf as leaf, Node as node}
-use Rattle.art_machine.proofs.Counting.{Counted, look_counts}
-use Rattle.art_machine.specs.Acting.{Answers, IsLook, goes_on, telling}
-use Rattle.art_machine.specs.declared.actions.Action.{Action}
-use Rattle.art_machine.specs.declared.actions.Action.TheVariants.{Begin, Read, ReadLeaf, Check, Settle}
-use Rattle.art_machine.specs.declared.actions.Answer.{Answer}
+use Rattle.art_step.proofs.Counting.{Counted, look_counts}
+use Rattle.art_step.specs.Acting.{Answers, IsLook, goes_on, telling}
+use Rattle.art_step.specs.declared.actions.Action.{Action}
+use Rattle.art_step.specs.declared.actions.Action.TheVariants.{Begin, Read, ReadLeaf, Check, Settle}
+use Rattle.art_step.specs.declared.actions.Answer.{Answer}
 use Rattle.art_cell.specs.declared.cells.Cell.TheVariants as cell
 use Rattle.std.proofs.lemmas.Option.{same_Some}
 use Rattle.art_find.specs.Descents.{StageFits, asks, ended_at, later_key, most_steps, stage_below, staged}

@@ -1,6 +1,6 @@
 -- Steps of a finding one after another.
 use Rattle.std.proofs.Common.{◌≡◌, ◌+◌, ℕ, Bool, true, List, None, refl, sym, subst, ◌∙◌, arith}
-use Rattle.art_machine.proofs.Counting.{Counted}
+use Rattle.art_step.proofs.Counting.{Counted}
 use Rattle.art_find.proofs.Counting.{answers_count}
 use Rattle.art_find.specs.Driven.{get_done}
 use Rattle.art_find.specs.Findings.{LookedOn, WentOn}

@@ -7,13 +7,13 @@ use Rattle.art_cell.specs.declared.cells.Link.{Link}
 use Rattle.art_cell.specs.declared.cells.Link.TheVariants.{Leaf as leaf, Node as node}
 use Rattle.art_find.proofs.Allowed.{allowed}
 use Rattle.art_find.specs.Asking.{MayLook, WantsCheck, WantsVersion, WantsWord}
-use Rattle.art_machine.specs.Acting.{Answers, goes_on, telling}
+use Rattle.art_step.specs.Acting.{Answers, goes_on, telling}
 use Rattle.art_find.proofs.Stages.{reads_on, still_reading, wants_check, wants_version, wants_word}
 use Rattle.art_find.specs.Descents.{Fits, IsReading, Stays, answer_at, asks, ended_at, most_steps, stage_begun, stage_below, stage_checked, stands_on}
-use Rattle.art_machine.specs.declared.actions.Answer.{Answer}
-use Rattle.art_machine.specs.declared.actions.Answer.TheVariants.{Begun, Word, Checked, Upgraded, Done}
-use Rattle.art_machine.specs.declared.actions.Action.{Action}
-use Rattle.art_machine.specs.declared.actions.Action.TheVariants.{Begin, ReadLeaf, Check, Settle}
+use Rattle.art_step.specs.declared.actions.Answer.{Answer}
+use Rattle.art_step.specs.declared.actions.Answer.TheVariants.{Begun, Word, Checked, Upgraded, Done}
+use Rattle.art_step.specs.declared.actions.Action.{Action}
+use Rattle.art_step.specs.declared.actions.Action.TheVariants.{Begin, ReadLeaf, Check, Settle}
 use Rattle.art_find.specs.declared.descents.Descent.{Descent}
 use Rattle.art_find.specs.declared.descents.Stage.{Stage}
 use Rattle.art_find.specs.declared.descents.Stage.TheVariants.{Start, Anchor, Child, Below, Both, Header, Prefix, Keys, Slot, Value, Length, Bytes, Decided, Ended}

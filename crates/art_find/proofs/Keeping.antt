@@ -14,7 +14,7 @@ use Rattle.art_cell.specs.Words.{size}
 pub use Rattle.art_find.specs.Kept.{Grows}
 use Rattle.art_find.specs.Kept.{IsKept, StaysRead, WasReadAt}
 use Rattle.art_find.specs.Rereadings.{AreKnown}
-use Rattle.art_machine.specs.Acting.{HasPath}
+use Rattle.art_step.specs.Acting.{HasPath}
 use Rattle.art_step.specs.Knowledge.{CellAt}
 use Rattle.art_step.specs.Shows.{HasChild, HasStamp, Shows}
 use Rattle.art_step.specs.Steps.Begin as begin

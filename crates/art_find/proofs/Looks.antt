@@ -3,11 +3,11 @@ use Rattle.std.proofs.Common.{◌≢◌, arith, refl}
 use Rattle.std.specs.Prelude.{IfSome, None, Option, Some, ⊤}
 use Rattle.art_find.proofs.Keeping.{cell_fits}
 use Rattle.art_find.specs.Findings.{AsksPlace}
-use Rattle.art_machine.specs.Acting.{IsAllowed}
+use Rattle.art_step.specs.Acting.{IsAllowed}
 use Rattle.art_step.specs.declared.views.Stamp.{Stamp}
 use Rattle.art_find.specs.Asking.{MayLook}
-use Rattle.art_machine.specs.declared.actions.Action.{Action}
-use Rattle.art_machine.specs.declared.actions.Action.TheVariants.{Begin, Read, ReadLeaf, Check, Settle, Upgrade, Claim, Write, WriteLeaf, Commit, Release, ClearBit, GiveBack, Free, ReadEpoch, StorePin, RaiseEpoch, ReadPin}
+use Rattle.art_step.specs.declared.actions.Action.{Action}
+use Rattle.art_step.specs.declared.actions.Action.TheVariants.{Begin, Read, ReadLeaf, Check, Settle, Upgrade, Claim, Write, WriteLeaf, Commit, Release, ClearBit, GiveBack, Free, ReadEpoch, StorePin, RaiseEpoch, ReadPin}
 use Rattle.art_step.specs.declared.views.Sizes.{Sizes}
 use Rattle.art_step.specs.declared.views.View.{View}
 use Rattle.art_tree.specs.Heaps.{Cells}

@@ -11,10 +11,10 @@ use Rattle.art_find.specs.declared.descents.NodeSeen.{NodeSeen}
 use Rattle.art_find.specs.declared.findings.Above.{Above}
 use Rattle.art_find.specs.declared.findings.Finding.{Finding}
 use Rattle.art_find.specs.declared.read_sets.ReadSet.{ReadSet}
-use Rattle.art_machine.specs.Acting.{Answers, goes_on, telling}
-use Rattle.art_machine.specs.declared.actions.Action.{Action}
-use Rattle.art_machine.specs.declared.actions.Action.TheVariants.{Check}
-use Rattle.art_machine.specs.declared.actions.Answer.{Answer}
+use Rattle.art_step.specs.Acting.{Answers, goes_on, telling}
+use Rattle.art_step.specs.declared.actions.Action.{Action}
+use Rattle.art_step.specs.declared.actions.Action.TheVariants.{Check}
+use Rattle.art_step.specs.declared.actions.Answer.{Answer}
 use Rattle.art_node.specs.declared.searches.Sought.{Sought}
 use Rattle.art_node.specs.declared.searches.Sought.TheVariants as sought
 use Rattle.art_step.specs.declared.deeds.Deed.{Deed}

@@ -10,18 +10,18 @@ use Rattle.art_cell.specs.declared.cells.Link.TheVariants.{Leaf as leaf, Node as
 use Rattle.art_cell.specs.declared.cells.Node.{Node}
 use Rattle.art_cell.specs.Children.{link_of}
 use Rattle.art_cell.specs.Words.{Words, packed}
-use Rattle.art_machine.proofs.AnswerKinds.{finds_word, is_begin, is_check}
+use Rattle.art_step.proofs.AnswerKinds.{finds_word, is_begin, is_check}
 use Rattle.art_find.specs.Asking.{WantsCheck, WantsVersion, WantsWord}
-use Rattle.art_machine.specs.Acting.{Answers, WasChecked, telling}
+use Rattle.art_step.specs.Acting.{Answers, WasChecked, telling}
 use Rattle.art_find.specs.Compares.{ComparesWord, HasByte, IsBeside, IsWithin, TellsBeside, at_first}
 use Rattle.art_find.specs.declared.descents.Beside.{Beside}
 use Rattle.art_find.specs.Descents.{IsAbove, IsChild, IsOn, IsReading, StageFits, WasNamed, WasNoted, answer_at, asks, ended_at, stage_below, staged}
 use Rattle.art_step.specs.Events.{MakesEvent}
 use Rattle.art_find.specs.Verdicts.{Says, value_of}
 use Rattle.art_find.specs.Ways.{HasHeader, IsAtLeaf, IsAtSlot, IsInKey, IsInPrefix, IsPassed, IsPastPrefix, count_in}
-use Rattle.art_machine.specs.declared.actions.Answer.{Answer}
-use Rattle.art_machine.specs.declared.actions.Answer.TheVariants.{Begun, Word as word_told, Checked}
-use Rattle.art_machine.specs.declared.actions.Action.{Action}
+use Rattle.art_step.specs.declared.actions.Answer.{Answer}
+use Rattle.art_step.specs.declared.actions.Answer.TheVariants.{Begun, Word as word_told, Checked}
+use Rattle.art_step.specs.declared.actions.Action.{Action}
 use Rattle.art_find.specs.declared.descents.LeafSeen.{LeafSeen}
 use Rattle.art_find.specs.declared.descents.NodeSeen.{NodeSeen}
 use Rattle.art_find.specs.declared.descents.Stage.{Stage}

@@ -1,8 +1,8 @@
 -- What a look at a cell needs of the pass's view.
 use Rattle.std.specs.Prelude.{◌<◌, Option, None, Some}
-use Rattle.art_machine.specs.Acting.{FindsWord, HasPath, IsBegin, IsCheck, WasChecked}
-use Rattle.art_machine.specs.declared.actions.Action.{Action}
-use Rattle.art_machine.specs.declared.actions.Action.TheVariants.{Begin, Read, ReadLeaf, Check, Settle}
+use Rattle.art_step.specs.Acting.{FindsWord, HasPath, IsBegin, IsCheck, WasChecked}
+use Rattle.art_step.specs.declared.actions.Action.{Action}
+use Rattle.art_step.specs.declared.actions.Action.TheVariants.{Begin, Read, ReadLeaf, Check, Settle}
 use Rattle.art_cell.specs.declared.cells.Link.TheVariants.{Leaf as leaf}
 use Rattle.art_step.specs.Shows.{Shows}
 use Rattle.art_step.specs.Steps.Begin as begin

@@ -8,13 +8,13 @@ use Rattle.art_cell.specs.Words.{size}
 use Rattle.art_find.specs.Compares.{IsWithin}
 use Rattle.art_find.specs.Verdicts.{Says, value_of}
 use Rattle.art_find.specs.Ways.{IsAtKeys, IsAtLeaf, IsAtSlot, IsInKey, IsInPrefix, IsOnNode, count_in}
-use Rattle.art_machine.specs.Acting.{HasPath, WasChecked}
-use Rattle.art_machine.specs.declared.actions.Answer.{Answer}
+use Rattle.art_step.specs.Acting.{HasPath, WasChecked}
+use Rattle.art_step.specs.declared.actions.Answer.{Answer}
 use Rattle.art_find.specs.declared.descents.Beside.{Beside}
-use Rattle.art_machine.specs.declared.actions.Answer.TheVariants.{Begun, Checked}
-use Rattle.art_machine.specs.declared.actions.Answer.TheVariants as told
-use Rattle.art_machine.specs.declared.actions.Action.{Action}
-use Rattle.art_machine.specs.declared.actions.Action.TheVariants.{Begin, Read, ReadLeaf, Check, Settle}
+use Rattle.art_step.specs.declared.actions.Answer.TheVariants.{Begun, Checked}
+use Rattle.art_step.specs.declared.actions.Answer.TheVariants as told
+use Rattle.art_step.specs.declared.actions.Action.{Action}
+use Rattle.art_step.specs.declared.actions.Action.TheVariants.{Begin, Read, ReadLeaf, Check, Settle}
 use Rattle.art_find.specs.declared.descents.Descent.{Descent}
 use Rattle.art_find.specs.declared.descents.LeafSeen.{LeafSeen}
 use Rattle.art_find.specs.declared.descents.NodeSeen.{NodeSeen}

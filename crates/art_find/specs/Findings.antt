@@ -5,14 +5,14 @@ use Rattle.art_cell.specs.declared.cells.Cell.{Cell}
 use Rattle.art_cell.specs.declared.cells.Cell.TheVariants as cell
 use Rattle.art_cell.specs.declared.cells.Link.TheVariants.{Node as node}
 use Rattle.art_cell.specs.declared.cells.Node.{Node}
-use Rattle.art_machine.specs.Acting.{Answers, HasPath, goes_on, telling}
+use Rattle.art_step.specs.Acting.{Answers, HasPath, goes_on, telling}
 use Rattle.art_find.specs.Descents.{Fits, Stays, asks, decided_at, ended_at, most_steps, stands_on}
 use Rattle.art_find.specs.Verdicts.{Says}
-use Rattle.art_machine.specs.declared.actions.Answer.{Answer}
-use Rattle.art_machine.specs.declared.actions.Answer.TheVariants.{Begun, Checked}
-use Rattle.art_machine.specs.declared.actions.Answer.TheVariants as told
-use Rattle.art_machine.specs.declared.actions.Action.{Action}
-use Rattle.art_machine.specs.declared.actions.Action.TheVariants.{Read, ReadLeaf, Check, Settle}
+use Rattle.art_step.specs.declared.actions.Answer.{Answer}
+use Rattle.art_step.specs.declared.actions.Answer.TheVariants.{Begun, Checked}
+use Rattle.art_step.specs.declared.actions.Answer.TheVariants as told
+use Rattle.art_step.specs.declared.actions.Action.{Action}
+use Rattle.art_step.specs.declared.actions.Action.TheVariants.{Read, ReadLeaf, Check, Settle}
 use Rattle.art_find.specs.declared.descents.Verdict.{Verdict}
 use Rattle.art_find.specs.ReadSets.{above_of, node_of}
 use Rattle.art_find.specs.Kept.{IsKept}

@@ -1,9 +1,9 @@
 -- What is known while all words of a cell are read.
 use Rattle.std.specs.Prelude.{◌≡◌, ◌≤◌, ◌<◌, ◌⊎◌, ℕ, nat_lt, List, Option, Some, None, if◌then◌else◌}
 use Rattle.art_cell.specs.Reads.{word_read}
-use Rattle.art_machine.specs.Acting.{HasPath}
-use Rattle.art_machine.specs.declared.actions.Action.{Action}
-use Rattle.art_machine.specs.declared.actions.Action.TheVariants.{Read}
+use Rattle.art_step.specs.Acting.{HasPath}
+use Rattle.art_step.specs.declared.actions.Action.{Action}
+use Rattle.art_step.specs.declared.actions.Action.TheVariants.{Read}
 use Rattle.art_find.specs.Kept.{IsKept}
 use Rattle.art_find.specs.declared.read_sets.Rereading.{Rereading}
 use Rattle.art_step.specs.Shows.{HasStamp}

@@ -3,7 +3,7 @@ use Rattle.std.specs.Prelude.{◌≡◌, ◌+◌, ◌<◌, ◌≤◌, ℕ, List,
 use Rattle.art_find.specs.Kept.{Grows, StaysRead, WasReadAt}
 use Rattle.art_find.specs.Rereadings.{AreKnown, RereadingFits}
 use Rattle.art_find.specs.declared.read_sets.Rereading.{Rereading}
-use Rattle.art_machine.specs.Acting.{HasPath}
+use Rattle.art_step.specs.Acting.{HasPath}
 use Rattle.art_step.specs.Shows.{HasStamp, OnlyReads}
 use Rattle.art_step.specs.Views.{IsNotHeld, size_of}
 use Rattle.art_step.specs.declared.views.Sizes.{Sizes}

@@ -4,10 +4,9 @@ ghost use Rattle.art_find.specs.Descents.{stage_below};
 ghost use Rattle.art_find.specs.Compares.{ComparesWord, IsWithin, TellsBeside, byte_after, byte_in};
 
 use art_cell::{Cell, Link, Node};
-use art_machine::{Action, Answer};
 use art_node::{Sought, first_word, next_word, read_header};
 use art_path::{Compared, compare_prefix};
-use art_step::{Changed, Stamp};
+use art_step::{Action, Answer, Changed, Stamp};
 
 /// A node that is stamped, and its header.
 #[derive(Clone, Copy)]
@@ -107,12 +106,12 @@ pub struct Descent {
 
 impl Descent {
     ghost use Rattle.art_find.specs.Asking.{MayLook, WantsCheck, WantsVersion};
-    ghost use Rattle.art_machine.specs.Acting.{Answers, goes_on, telling};
+    ghost use Rattle.art_step.specs.Acting.{Answers, goes_on, telling};
     ghost use Rattle.art_find.specs.Descents.{Fits, IsReading, Stays};
     ghost use Rattle.art_find.specs.Descents.{answer_at, asks, decided_at, ended_at, most_steps, stage_begun, stage_checked};
-    ghost use Rattle.art_machine.specs.declared.actions.Answer.{Answer as AnswerTold};
-    ghost use Rattle.art_machine.specs.declared.actions.Answer.TheVariants as told;
-    ghost use Rattle.art_machine.specs.declared.actions.Action.{Action as ActionOf};
+    ghost use Rattle.art_step.specs.declared.actions.Answer.{Answer as AnswerTold};
+    ghost use Rattle.art_step.specs.declared.actions.Answer.TheVariants as told;
+    ghost use Rattle.art_step.specs.declared.actions.Action.{Action as ActionOf};
     ghost use Rattle.art_find.specs.declared.descents.Stage.TheVariants as stages;
     ghost use Rattle.art_step.specs.Shows.{HasValue};
     ghost use Rattle.art_step.specs.declared.deeds.Deed.{Deed};
@@ -181,7 +180,6 @@ impl Descent {
     }
 
     /// The key's value, or that it has none: at the step that settles it, and once that is settled.
-    #[inline(always)]
     pub fn answer(&self) -> Option<u64>
         ensures { result ≡ answer_at self.now.stage }
     {
@@ -204,7 +202,6 @@ impl Descent {
     }
 
     /// The key's value, or that it has none, once that is settled.
-    #[inline(always)]
     pub fn ended(&self) -> Option<Option<u64>>
         ensures { result ≡ ended_at self.now.stage }
     {
@@ -305,7 +302,6 @@ impl Descent {
     }
 
     /// A version word was locked, obsolete or changed: the descent restarts.
-    #[inline(always)]
     pub fn failed(&mut self)
         ensures start { self.new ≡ record self.old { stage = stages.Start } }
         ensures steps { most_steps self.new.depth self.new.stage ≡ 0 }
@@ -352,7 +348,6 @@ impl Verdict {
     ghost use Rattle.art_find.specs.declared.descents.Verdict.TheVariants as verdicts;
 
     /// The key's value, or that it has none.
-    #[inline(always)]
     pub fn value(self) -> Option<u64>
         ensures { result ≡ value_of self }
     {

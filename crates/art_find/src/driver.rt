@@ -2,15 +2,14 @@
 ghost use Rattle.std.specs.Prelude.{◌≡◌, ◌≢◌, IfNone, IfSome, None, ⊤};
 ghost use Rattle.art_find.specs.Findings.{IsToSettle};
 ghost use Rattle.art_find.specs.Asking.{MayLook};
-ghost use Rattle.art_machine.specs.Acting.{Answers, IsAllowed, telling};
-ghost use Rattle.art_machine.specs.declared.actions.Action.TheVariants.{Read as read_asked, ReadLeaf as read_leaf_asked};
-ghost use Rattle.art_machine.specs.declared.actions.Action.TheVariants.{Settle as settle_asked};
+ghost use Rattle.art_step.specs.Acting.{Answers, IsAllowed, telling};
+ghost use Rattle.art_step.specs.declared.actions.Action.TheVariants.{Read as read_asked, ReadLeaf as read_leaf_asked};
+ghost use Rattle.art_step.specs.declared.actions.Action.TheVariants.{Settle as settle_asked};
 ghost use Rattle.art_step.specs.Steps.Read.{LeafOutcome, Outcome as ReadOutcome};
 ghost use Rattle.art_step.specs.declared.deeds.Deed.{Deed};
 ghost use Rattle.art_step.specs.declared.views.Stamp.{Stamp as StampOf};
 
-use art_machine::{Action, Answer, perform};
-use art_step::{EpochSteps, Stamp, Steps};
+use art_step::{Action, Answer, EpochSteps, Stamp, Steps, perform};
 
 /// Makes the step that is asked for, unless it settles an answer.
 #[inline(always)]

@@ -51,8 +51,7 @@ use crate::driver::look;
 use crate::read_sets::Sink;
 use crate::{Descent, ReadSet, Stage, Verdict};
 use art_cell::Cell;
-use art_machine::{Action, Answer};
-use art_step::{Changed, EpochSteps, Locked, Stamp};
+use art_step::{Action, Answer, Changed, EpochSteps, Locked, Stamp};
 
 /// The cell that has the node as its child where a finding stands.
 #[derive(Clone, Copy)]
@@ -85,11 +84,11 @@ pub struct Finding {
 
 impl Finding {
     ghost use Rattle.art_find.specs.Asking.{MayLook, WantsWord};
-    ghost use Rattle.art_machine.specs.Acting.{Answers, goes_on, telling};
+    ghost use Rattle.art_step.specs.Acting.{Answers, goes_on, telling};
     ghost use Rattle.art_find.specs.Descents.{IsReading, Stays};
     ghost use Rattle.art_find.specs.Descents.{answer_at, asks, ended_at, most_steps};
-    ghost use Rattle.art_machine.specs.declared.actions.Action.{Action as ActionOf};
-    ghost use Rattle.art_machine.specs.declared.actions.Action.TheVariants.{Begin as begin_asked, Check as check_asked, Read as read_asked};
+    ghost use Rattle.art_step.specs.declared.actions.Action.{Action as ActionOf};
+    ghost use Rattle.art_step.specs.declared.actions.Action.TheVariants.{Begin as begin_asked, Check as check_asked, Read as read_asked};
     ghost use Rattle.art_find.specs.Findings.{AsksLeaf, Descends, Enters, FindingFits, IsStanding, IsThere, Keeps, LookedOn, position_at};
     ghost use Rattle.art_find.specs.declared.read_sets.ReadSet.{ReadSet as ReadSetOf};
     ghost use Rattle.art_step.specs.Shows.{HasValue};

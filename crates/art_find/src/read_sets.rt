@@ -8,8 +8,7 @@ ghost use Rattle.art_step.specs.Views.{size_of};
 
 use crate::driver::read_word;
 use art_cell::{Cell, Reads};
-use art_machine::Action;
-use art_step::{Stamp, Steps};
+use art_step::{Action, Stamp, Steps};
 
 /// Takes the words that a descent reads of cells: a change keeps them, a get does not.
 pub(crate) trait Sink {
@@ -95,7 +94,6 @@ impl ReadSet {
     }
 
     /// The word that a rereading of the cell where the finding stands asked for is this.
-    #[inline(always)]
     pub fn reread_node(&mut self, rereading: &mut Rereading, word: u64)
         requires { rereading.old.place < 266 }
         ensures steps { rereading.old.place < rereading.new.place }
@@ -114,7 +112,6 @@ impl ReadSet {
     }
 
     /// The word that a rereading of the cell above asked for is this.
-    #[inline(always)]
     pub fn reread_above(&mut self, rereading: &mut Rereading, word: u64)
         requires { rereading.old.place < 266 }
         ensures steps { rereading.old.place < rereading.new.place }
@@ -223,7 +220,7 @@ impl Rereading {
     ghost use Rattle.art_find.specs.Kept.{IsKept, StaysRead};
     ghost use Rattle.art_find.specs.Rereadings.{IsWholeOrLast, RereadingFits, reads_next};
     ghost use Rattle.art_find.specs.Runs.{HasReadOn};
-    ghost use Rattle.art_machine.specs.Acting.{HasPath};
+    ghost use Rattle.art_step.specs.Acting.{HasPath};
     ghost use Rattle.art_step.specs.Steps.Read.{Outcome as ReadOutcome};
     ghost use Rattle.art_step.specs.Views.{IsNotHeld};
     ghost use Rattle.art_step.specs.Shows.{HasStamp};
@@ -245,7 +242,6 @@ impl Rereading {
     }
 
     /// The read of the first word that is not known, or none where all are.
-    #[inline(always)]
     pub fn next(&self, stamp: Stamp) -> Option<Action>
         ensures asks { result ≡ reads_next stamp self.now }
         ensures allowed { (z : Sizes) (v : View) (reads : List (Option ℕ)) →
@@ -264,7 +260,6 @@ impl Rereading {
     }
 
     /// The word that it asked for is this.
-    #[inline(always)]
     pub fn told(&mut self, reads: &mut Reads, word: u64)
         requires { self.old.place < 266 }
         ensures steps { self.old.place < self.new.place }

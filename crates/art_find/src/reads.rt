@@ -12,13 +12,13 @@ use art_step::Stamp;
 impl Descent {
     ghost use Rattle.art_cell.specs.declared.cells.Cell.TheVariants as cells;
     ghost use Rattle.art_find.specs.Asking.{WantsWord};
-    ghost use Rattle.art_machine.specs.Acting.{Answers, telling};
+    ghost use Rattle.art_step.specs.Acting.{Answers, telling};
     ghost use Rattle.art_find.specs.Compares.{IsWithin};
     ghost use Rattle.art_find.specs.Descents.{Fits, IsAbove, IsOn, IsReading, WasNoted};
     ghost use Rattle.art_find.specs.Descents.{answer_at, asks, ended_at, later_key, most_steps, stands_on};
     ghost use Rattle.art_find.specs.Ways.{HasHeader, IsAtKeys, IsAtLeaf, IsAtSlot, IsInKey, IsInPrefix, IsOnNode, IsPassed, count_in};
-    ghost use Rattle.art_machine.specs.declared.actions.Answer.TheVariants as told;
-    ghost use Rattle.art_machine.specs.declared.actions.Action.{Action as ActionOf};
+    ghost use Rattle.art_step.specs.declared.actions.Answer.TheVariants as told;
+    ghost use Rattle.art_step.specs.declared.actions.Action.{Action as ActionOf};
     ghost use Rattle.art_step.specs.Shows.{HasStamp, Shows};
     ghost use Rattle.art_step.specs.declared.deeds.Deed.{Deed};
     ghost use Rattle.art_step.specs.declared.views.Sizes.{Sizes};

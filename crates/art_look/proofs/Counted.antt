@@ -1,11 +1,11 @@
 -- A step of the walk is counted.
 use Rattle.std.proofs.Common.{◌≡◌, ℕ, ◌<◌, Bool, List, sym, subst, arith}
-use Rattle.art_machine.proofs.Counting.{look_counts}
+use Rattle.art_step.proofs.Counting.{look_counts}
 use Rattle.art_find.proofs.Driven.{restarts_few}
-use Rattle.art_machine.specs.Acting.{Answers, IsLook, goes_on, telling}
+use Rattle.art_step.specs.Acting.{Answers, IsLook, goes_on, telling}
 use Rattle.art_find.specs.Driven.{restarts_after}
-use Rattle.art_machine.specs.declared.actions.Answer.{Answer}
-use Rattle.art_machine.specs.declared.actions.Action.{Action}
+use Rattle.art_step.specs.declared.actions.Answer.{Answer}
+use Rattle.art_step.specs.declared.actions.Action.{Action}
 use Rattle.art_key.specs.declared.bounds.Bound.{Bound as KeyBound}
 use Rattle.art_look.specs.declared.path_buffers.PathBuffer.{PathBuffer}
 use Rattle.art_look.specs.Seeks.{Fits as SeekFits, GoesOn, IsWalking, StageFits, heard}

@@ -5,17 +5,17 @@ use Rattle.std.proofs.lemmas.Option.{same_Some}
 use Rattle.art_cell.specs.declared.cells.Cell.TheVariants as cell
 use Rattle.std.specs.Prelude.{IfSome, Err}
 use Rattle.art_cell.specs.declared.cells.Cell.{Cell}
-use Rattle.art_machine.proofs.Counting.{Counted, look_counts}
+use Rattle.art_step.proofs.Counting.{Counted, look_counts}
 use Rattle.art_find.proofs.Counting.{counts_on}
 use Rattle.art_find.proofs.Driven.{restarts_few}
 use Rattle.art_find.proofs.Stages.{reads_on}
 use Rattle.art_find.specs.Asking.{MayLook, WantsCheck, WantsVersion}
-use Rattle.art_machine.specs.Acting.{Answers, IsLook, goes_on, telling}
+use Rattle.art_step.specs.Acting.{Answers, IsLook, goes_on, telling}
 use Rattle.art_find.specs.Descents.{IsReading}
 use Rattle.art_find.specs.Driven.{restarts_after}
-use Rattle.art_machine.specs.declared.actions.Answer.{Answer}
-use Rattle.art_machine.specs.declared.actions.Action.{Action}
-use Rattle.art_machine.specs.declared.actions.Action.TheVariants.{Begin, Read, ReadLeaf, Check, Settle}
+use Rattle.art_step.specs.declared.actions.Answer.{Answer}
+use Rattle.art_step.specs.declared.actions.Action.{Action}
+use Rattle.art_step.specs.declared.actions.Action.TheVariants.{Begin, Read, ReadLeaf, Check, Settle}
 use Rattle.art_find.specs.declared.straight.Tally.{Tally}
 use Rattle.art_key.specs.declared.bounds.Bound.{Bound as KeyBound}
 use Rattle.art_key.specs.declared.bounds.Bound.TheVariants as key_bound

@@ -7,11 +7,11 @@ use Rattle.art_epoch.specs.declared.enter.Pinning.{Pinning}
 use Rattle.art_epoch.specs.declared.enter.Pinning.TheVariants.{Noting, Storing, Ended}
 use Rattle.art_find.proofs.Counting.{asks_look as descent_looks}
 use Rattle.art_look.proofs.Going.{asks_look as look_looks}
-use Rattle.art_machine.specs.Acting.{IsLook, IsPlain, goes_on, is_look}
-use Rattle.art_machine.specs.declared.actions.Action.{Action}
-use Rattle.art_machine.specs.declared.actions.Action.TheVariants.{Begin, Read, ReadLeaf, Check, Settle, ReadEpoch, StorePin}
-use Rattle.art_machine.specs.declared.actions.Answer.{Answer}
-use Rattle.art_machine.specs.declared.actions.Answer.TheVariants.{Begun, Word, Checked, Upgraded, Done}
+use Rattle.art_step.specs.Acting.{IsLook, IsPlain, goes_on, is_look}
+use Rattle.art_step.specs.declared.actions.Action.{Action}
+use Rattle.art_step.specs.declared.actions.Action.TheVariants.{Begin, Read, ReadLeaf, Check, Settle, ReadEpoch, StorePin}
+use Rattle.art_step.specs.declared.actions.Answer.{Answer}
+use Rattle.art_step.specs.declared.actions.Answer.TheVariants.{Begun, Word, Checked, Upgraded, Done}
 use Rattle.art_look.specs.Asking.{is_counted, stepped_by, walked}
 use Rattle.art_look.specs.Seeks.{asks_at, is_walking}
 use Rattle.art_look.specs.Walks.{asks}

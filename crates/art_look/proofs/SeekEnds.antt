@@ -15,6 +15,8 @@ use Rattle.art_look.specs.Seen.{look_done}
 use Rattle.art_look.specs.declared.looks.Look.{Look}
 use Rattle.art_look.specs.declared.looks.Seen.{Seen as SeenOf}
 use Rattle.art_look.specs.declared.path_buffers.PathBuffer.{PathBuffer}
+use Rattle.art_look.specs.Seeks.{reached_by, seen_by}
+use Rattle.art_look.specs.Walks as walks
 use Rattle.art_look.specs.Walks.{Fits, IsEnd, aim_of, ended_at, of_value, told_of}
 use Rattle.art_look.specs.declared.walks.Aim.TheVariants as aim
 use Rattle.art_look.specs.declared.walks.Outcome.{Outcome}
@@ -159,3 +161,15 @@ module _ (z : Sizes) (k : List ℕ) (hi : KeyBound) (u : View) (t : PathBuffer) 
       let three = ended_least m.stage (range_seen m left ends) in
       let least = fits.least in
       omega (arith, three, least)
+
+-- ---- what a look has seen is by how far it has come
+
+range_reached : (w : Walk) (k : List ℕ) (hi : KeyBound) (t : PathBuffer) → option_map (looks.seen_to k hi t) (walks.reached_at w) ≡ walks.seen_at w k hi t
+range_reached (Key m) k hi t = refl
+range_reached (Range m) k hi t = refl
+
+pub seen_reached : (o : Outcome) (w : Walk) (k : List ℕ) (hi : KeyBound) (t : PathBuffer) → option_map (looks.seen_to k hi t) (reached_by (Some o) w) ≡ seen_by (Some o) w k hi t
+seen_reached (Found value) w k hi t = refl
+seen_reached Absent w k hi t = refl
+seen_reached Seen w k hi t = range_reached w k hi t
+seen_reached Busy w k hi t = refl

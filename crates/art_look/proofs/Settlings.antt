@@ -17,8 +17,8 @@ use Rattle.art_look.specs.declared.walks.Settling.{Settling}
 use Rattle.art_look.specs.declared.walks.Settling.TheVariants as settling
 use Rattle.art_look.specs.declared.walks.Walk.{Walk}
 use Rattle.art_look.specs.declared.walks.Walk.TheVariants.{Key, Range}
-use Rattle.art_machine.specs.declared.actions.Action.{Action}
-use Rattle.art_machine.specs.declared.actions.Action.TheVariants.{Settle}
+use Rattle.art_step.specs.declared.actions.Action.{Action}
+use Rattle.art_step.specs.declared.actions.Action.TheVariants.{Settle}
 use Rattle.art_step.specs.declared.views.Sizes.{Sizes}
 use Rattle.art_step.specs.declared.views.View.{View}
 

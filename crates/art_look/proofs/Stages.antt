@@ -20,12 +20,12 @@ use Rattle.art_cell.specs.Lemmas.Entries.{nonzero_some}
 use Rattle.art_cell.specs.Reads.{NoneFrom}
 use Rattle.art_cell.specs.Words.{Words, byte_of, child_of, nonzero, packed, size}
 use Rattle.art_find.specs.Asking.{WantsCheck, WantsVersion}
-use Rattle.art_machine.specs.Acting.{Answers, telling}
+use Rattle.art_step.specs.Acting.{Answers, telling}
 use Rattle.art_find.specs.Descents.{IsAbove, IsOn, IsReading, WasNoted}
 use Rattle.art_find.specs.Ways.{count_in}
-use Rattle.art_machine.specs.declared.actions.Answer.{Answer}
-use Rattle.art_machine.specs.declared.actions.Action.{Action}
-use Rattle.art_machine.specs.declared.actions.Action.TheVariants.{Settle}
+use Rattle.art_step.specs.declared.actions.Answer.{Answer}
+use Rattle.art_step.specs.declared.actions.Action.{Action}
+use Rattle.art_step.specs.declared.actions.Action.TheVariants.{Settle}
 use Rattle.art_find.specs.declared.descents.LeafSeen.{LeafSeen}
 use Rattle.art_find.specs.declared.descents.NodeSeen.{NodeSeen}
 use Rattle.art_find.proofs.Keeping.{anchor_path, path_passed}

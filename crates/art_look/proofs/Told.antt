@@ -5,13 +5,13 @@ use Rattle.std.specs.Prelude.{None, Ok, Err}
 use Rattle.art_epoch.specs.Pins as pins
 use Rattle.art_epoch.specs.declared.enter.Pinning.{Pinning}
 use Rattle.art_epoch.specs.declared.enter.Pinning.TheVariants.{Noting, Storing, Ended}
-use Rattle.art_machine.proofs.Counting.{look_counts, steps_made}
-use Rattle.art_machine.proofs.Silence.{plain_silent}
-use Rattle.art_machine.specs.Acting.{Answers, IsLook, steps_in, telling}
-use Rattle.art_machine.specs.declared.actions.Action.{Action}
-use Rattle.art_machine.specs.declared.actions.Action.TheVariants.{Begin, Read, ReadLeaf, Check, Settle, ReadEpoch, StorePin}
-use Rattle.art_machine.specs.declared.actions.Answer.{Answer}
-use Rattle.art_machine.specs.declared.actions.Answer.TheVariants.{Begun, Word, Checked, Upgraded, Done}
+use Rattle.art_step.proofs.Counting.{look_counts, steps_made}
+use Rattle.art_step.proofs.Silence.{plain_silent}
+use Rattle.art_step.specs.Acting.{Answers, IsLook, steps_in, telling}
+use Rattle.art_step.specs.declared.actions.Action.{Action}
+use Rattle.art_step.specs.declared.actions.Action.TheVariants.{Begin, Read, ReadLeaf, Check, Settle, ReadEpoch, StorePin}
+use Rattle.art_step.specs.declared.actions.Answer.{Answer}
+use Rattle.art_step.specs.declared.actions.Answer.TheVariants.{Begun, Word, Checked, Upgraded, Done}
 use Rattle.art_look.proofs.Parts.{walk_looks}
 use Rattle.art_look.specs.Asking.{MaySeek, stepped_by, told_by}
 use Rattle.art_look.specs.Seeks.{asks_at}

@@ -1,15 +1,15 @@
 -- A walk, from step to step.
 use Rattle.std.proofs.Common.{◌≡◌, ℕ, ◌+◌, ◌<◌, ◌≤◌, true, List, length, Some, None, refl, sym, subst, arith}
 use Rattle.art_look.proofs.Going.{asks_look}
-use Rattle.art_machine.proofs.Counting.{look_counts}
+use Rattle.art_step.proofs.Counting.{look_counts}
 use Rattle.art_find.proofs.Counting.{answers_count, counts_on, few_steps}
 use Rattle.art_find.specs.Asking.{MaySettle}
-use Rattle.art_machine.specs.Acting.{Answers, goes_on, telling}
+use Rattle.art_step.specs.Acting.{Answers, goes_on, telling}
 use Rattle.art_find.specs.Descents as descents
 use Rattle.art_find.specs.Driven.{GetFits, get_done, restarts_after}
-use Rattle.art_machine.specs.declared.actions.Answer.{Answer}
-use Rattle.art_machine.specs.declared.actions.Action.{Action}
-use Rattle.art_machine.specs.declared.actions.Action.TheVariants.{Settle}
+use Rattle.art_step.specs.declared.actions.Answer.{Answer}
+use Rattle.art_step.specs.declared.actions.Action.{Action}
+use Rattle.art_step.specs.declared.actions.Action.TheVariants.{Settle}
 use Rattle.art_find.specs.declared.descents.Descent.{Descent}
 use Rattle.art_find.specs.declared.descents.Stage.{Stage}
 use Rattle.art_find.specs.declared.descents.Stage.TheVariants as stage

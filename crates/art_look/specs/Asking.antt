@@ -2,11 +2,11 @@
 use Rattle.std.specs.Prelude.{◌≡◌, ℕ, ◌+◌, ◌⊎◌, Bool, true, false, Option, Some, None, Ok}
 use Rattle.art_find.specs.Asking.{MayLook}
 use Rattle.art_find.specs.Driven.{restarts_after}
-use Rattle.art_machine.specs.Acting.{IsAllowed, goes_on, is_look}
-use Rattle.art_machine.specs.declared.actions.Action.{Action}
-use Rattle.art_machine.specs.declared.actions.Action.TheVariants.{Settle}
-use Rattle.art_machine.specs.declared.actions.Answer.{Answer}
-use Rattle.art_machine.specs.declared.actions.Answer.TheVariants.{Checked}
+use Rattle.art_step.specs.Acting.{IsAllowed, goes_on, is_look}
+use Rattle.art_step.specs.declared.actions.Action.{Action}
+use Rattle.art_step.specs.declared.actions.Action.TheVariants.{Settle}
+use Rattle.art_step.specs.declared.actions.Answer.{Answer}
+use Rattle.art_step.specs.declared.actions.Answer.TheVariants.{Checked}
 use Rattle.art_look.specs.declared.driver.Stepped.{Stepped}
 use Rattle.art_look.specs.declared.driver.Stepped.TheVariants as stepped
 use Rattle.art_step.specs.declared.deeds.Deed.{Deed}

@@ -9,9 +9,9 @@ use Rattle.art_cell.specs.declared.cells.Layout.TheVariants.{Node4, Node16, Node
 use Rattle.art_cell.specs.Words.{size}
 use Rattle.art_find.specs.Descents.{IsAbove, IsOn, IsReading, IsStamped, WasNamed}
 use Rattle.art_find.specs.Ways.{count_in}
-use Rattle.art_machine.specs.Acting.{HasPath}
-use Rattle.art_machine.specs.declared.actions.Action.{Action}
-use Rattle.art_machine.specs.declared.actions.Action.TheVariants.{Begin, Read, ReadLeaf, Check, Settle}
+use Rattle.art_step.specs.Acting.{HasPath}
+use Rattle.art_step.specs.declared.actions.Action.{Action}
+use Rattle.art_step.specs.declared.actions.Action.TheVariants.{Begin, Read, ReadLeaf, Check, Settle}
 use Rattle.art_find.specs.declared.descents.LeafSeen.{LeafSeen}
 use Rattle.art_find.specs.declared.descents.NodeSeen.{NodeSeen}
 use Rattle.art_key.specs.declared.bounds.Bound.{Bound as KeyBound}

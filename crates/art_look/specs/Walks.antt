@@ -4,7 +4,7 @@ use Rattle.std.specs.Option.{option_map}
 use Rattle.art_find.specs.Descents as descents
 use Rattle.art_find.specs.Descents.{IsReading}
 use Rattle.art_find.specs.Driven.{GetFits, get_done}
-use Rattle.art_machine.specs.declared.actions.Action.{Action}
+use Rattle.art_step.specs.declared.actions.Action.{Action}
 use Rattle.art_find.specs.declared.straight.Tally.{Tally}
 use Rattle.art_key.specs.declared.bounds.Bound.{Bound as KeyBound}
 use Rattle.art_look.specs.Driven.{LookFits}

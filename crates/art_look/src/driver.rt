@@ -1,8 +1,8 @@
 //! Makes the steps of a seek.
 ghost use Rattle.std.specs.Prelude.{◌≡◌, ◌+◌, ◌<◌, ◌≤◌, length, Some, None};
 ghost use Rattle.art_find.specs.Findings.{IsToSettle};
-ghost use Rattle.art_machine.specs.Acting.{Answers, telling};
-ghost use Rattle.art_machine.specs.declared.actions.Answer.{Answer as AnswerOf};
+ghost use Rattle.art_step.specs.Acting.{Answers, telling};
+ghost use Rattle.art_step.specs.declared.actions.Answer.{Answer as AnswerOf};
 ghost use Rattle.art_look.specs.Asking.{MaySeek, is_counted, restarts_by, stepped_by, told_by, walked};
 ghost use Rattle.art_look.specs.Seeks.{Fits, WillBeBusy, asks, ended_at, is_walking, steps_left};
 ghost use Rattle.art_look.specs.Walks.{Settles, aim_of, asks as walk_asks, deed_at};
@@ -14,8 +14,7 @@ ghost use Rattle.art_step.specs.declared.views.View.{View};
 use crate::walks::Walk;
 use crate::{PathBuffer, Seek};
 use art_key::Bound;
-use art_machine::{Action, Answer, Effects, perform};
-use art_step::EpochSteps;
+use art_step::{Action, Answer, Effects, EpochSteps, perform};
 
 /// Which kind of step was made.
 #[derive(Clone, Copy)]

@@ -18,8 +18,7 @@ use crate::{PathBuffer, Seek, SeekStage};
 use art_epoch::{Pinning, unpin};
 use art_find::Tally;
 use art_key::Bound;
-use art_machine::{Action, Answer};
-use art_step::{EpochSteps, Steps};
+use art_step::{Action, Answer, EpochSteps, Steps};
 
 impl Seek {
     /// Makes the steps of the pin, those of the walk as far as nothing stops it, and that of the close. Whether one of its walk is next: else it

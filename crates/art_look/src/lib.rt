@@ -94,5 +94,4 @@ pub use fronts::Front;
 pub use looks::{ChildSought, Look, LookStage, Reach, Reached, Seen};
 pub use path_buffers::PathBuffer;
 pub use seeks::{Seek, SeekStage};
-pub use straight::look_on;
 pub use walks::{Aim, Outcome};

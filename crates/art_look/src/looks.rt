@@ -1,11 +1,12 @@
 //! A look of a range.
 ghost use Rattle.std.specs.Prelude.{◌≡◌, ℕ, ◌≤◌, ◌<◌, ◌+◌, List, Option, length, None, Ok};
+ghost use Rattle.std.specs.Option.{option_map};
 ghost use Rattle.art_key.specs.Bounds.{is_before};
 ghost use Rattle.art_key.specs.declared.bounds.Bound.{Bound as KeyBound};
 ghost use Rattle.art_key.specs.declared.bounds.Bound.TheVariants.{At as at};
 ghost use Rattle.art_look.specs.Looks.{stage_below};
 ghost use Rattle.art_look.specs.declared.looks.LookStage.TheVariants as lookstages;
-ghost use Rattle.art_look.specs.Seen.{bound_at, nearer, row_within};
+ghost use Rattle.art_look.specs.Seen.{bound_at, nearer};
 ghost use Rattle.art_look.specs.Table.{end_at};
 ghost use Rattle.art_look.specs.Settlings.{LookStandsAt, look_settling};
 ghost use Rattle.art_step.specs.Deeds.{bound_of, key_of};
@@ -18,8 +19,7 @@ use crate::walks::Settling;
 use art_cell::{Cell, Link, Node};
 use art_find::{LeafSeen, NodeSeen};
 use art_key::{Bound, Key};
-use art_machine::{Action, Answer};
-use art_step::{Changed, Stamp};
+use art_step::{Action, Answer, Changed, Stamp};
 
 /// How far a look sees that ends at a path.
 #[derive(Clone, Copy)]
@@ -137,10 +137,10 @@ pub struct Look {
 
 impl Look {
     ghost use Rattle.art_find.specs.Asking.{MayLook, WantsCheck, WantsVersion};
-    ghost use Rattle.art_machine.specs.Acting.{Answers, goes_on, telling};
+    ghost use Rattle.art_step.specs.Acting.{Answers, goes_on, telling};
     ghost use Rattle.art_find.specs.Descents.{IsReading};
-    ghost use Rattle.art_machine.specs.declared.actions.Answer.TheVariants as told;
-    ghost use Rattle.art_machine.specs.declared.actions.Action.{Action as ActionOf};
+    ghost use Rattle.art_step.specs.declared.actions.Answer.TheVariants as told;
+    ghost use Rattle.art_step.specs.declared.actions.Action.{Action as ActionOf};
     ghost use Rattle.art_look.specs.Looks.{Fits, IsSettling, Settles, asks, deed_at, has_ended, least_steps, most_steps, reached_at};
     ghost use Rattle.art_look.specs.declared.path_buffers.PathBuffer.{PathBuffer as PathBufferOf};
     ghost use Rattle.art_step.specs.declared.views.Sizes.{Sizes};
@@ -384,7 +384,9 @@ fn below(stamp: Stamp, link: Link) -> LookStage
 }
 
 impl Reached {
+    ghost use Rattle.std.specs.Prelude.{IfSome};
     ghost use Rattle.art_look.specs.Looks.{seen_to};
+    ghost use Rattle.art_look.specs.Seen.{row_seen};
 
     /// What was seen of the range from the key on, before the bound, with the path buffer's path and key. It is made once, where it is wanted:
     /// it has room for three keys, and is not handed on.
@@ -395,12 +397,39 @@ impl Reached {
     {
         Seen {
             lo: copied(lo),
-            hi: nearer_end(self.reach, path_buffer.path.as_slice(), hi),
-            row: match self.value {
-                Some(value) => row_within(lo, hi, path_buffer.key.as_slice(), value),
+            hi: self.end(hi, path_buffer),
+            row: match self.row(lo, hi, path_buffer) {
+                Some((key, value)) => Some((copied(key), value)),
                 None => None,
             },
         }
+    }
+
+    /// Where the part of the range ends that was seen.
+    #[inline(always)]
+    pub fn end(self, hi: &Bound, path_buffer: &PathBuffer) -> Bound
+        ensures { result ≡ nearer (bound_at (end_at self.reach path_buffer.now.path.items)) hi.now }
+    {
+        nearer_end(self.reach, path_buffer.path.as_slice(), hi)
+    }
+
+    /// The row that was seen in the range, if there is one: its key, where it was read, and its value.
+    #[inline(always)]
+    pub fn row<'a>(
+        self,
+        lo: &[u8],
+        hi: &Bound,
+        path_buffer: &'a PathBuffer,
+    ) -> Option<(&'a [u8], u64)>
+        ensures row { option_map (λ r. (key_of r.0.now, r.1)) result ≡ row_seen lo.now hi.now path_buffer.now.key.items self.value }
+        ensures short { IfSome result (λ r. length r.0.now ≤ 64) }
+    {
+        let value = self.value?;
+        let key = path_buffer.key.as_slice();
+        if is_less(key, lo) || !is_below(key, hi) {
+            return None;
+        }
+        Some((key, value))
     }
 }
 
@@ -454,18 +483,6 @@ fn nearer(end: Bound, hi: &Bound) -> Bound
         Bound::At(key) => Bound::At(copied(key.as_slice())),
         Bound::End => Bound::End,
     }
-}
-
-/// The row, where its key is not before the lower end and is before the upper one.
-#[inline(always)]
-fn row_within(lo: &[u8], hi: &Bound, key: &[u8], value: u64) -> Option<(Key, u64)>
-    requires { length key.now ≤ 64 }
-    ensures { result ≡ row_within lo.now hi.now key.now value }
-{
-    if is_less(key, lo) || !is_below(key, hi) {
-        return None;
-    }
-    Some((copied(key), value))
 }
 
 /// Whether the key is before the bound.

@@ -17,11 +17,11 @@ impl Look {
     ghost use Rattle.art_cell.specs.declared.cells.Cell.TheVariants as cells;
     ghost use Rattle.art_cell.specs.declared.cells.Link.TheVariants as links;
     ghost use Rattle.art_find.specs.Asking.{WantsWord};
-    ghost use Rattle.art_machine.specs.Acting.{Answers, telling};
+    ghost use Rattle.art_step.specs.Acting.{Answers, telling};
     ghost use Rattle.art_find.specs.Descents.{IsAbove, IsOn, IsReading, WasNoted};
     ghost use Rattle.art_find.specs.Ways.{count_in};
-    ghost use Rattle.art_machine.specs.declared.actions.Answer.TheVariants as told;
-    ghost use Rattle.art_machine.specs.declared.actions.Action.{Action as ActionOf};
+    ghost use Rattle.art_step.specs.declared.actions.Answer.TheVariants as told;
+    ghost use Rattle.art_step.specs.declared.actions.Action.{Action as ActionOf};
     ghost use Rattle.art_look.specs.Fronts.{low_at};
     ghost use Rattle.art_look.specs.Looks.{Fits, IsSought, asks, deed_at, has_ended, least_steps, most_steps};
     ghost use Rattle.art_look.specs.PathBuffers.{HasFirstValue, SeeksChild, SeeksKeys, SpellsKey, SpellsPath, SpellsPrefix, SpellsWords};

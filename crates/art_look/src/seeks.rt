@@ -2,9 +2,9 @@
 ghost use Rattle.std.specs.Prelude.{◌≡◌, ℕ, ◌+◌, ◌-◌, ◌<◌, ◌≤◌, List, length, Option, Some, None, true, false};
 ghost use Rattle.art_epoch.specs.Pins as pins;
 ghost use Rattle.art_epoch.specs.Pins.{MayPin};
-ghost use Rattle.art_machine.specs.Acting.{Answers, goes_on, telling};
+ghost use Rattle.art_step.specs.Acting.{Answers, goes_on, telling};
 ghost use Rattle.art_find.specs.Driven.{restarts_after};
-ghost use Rattle.art_machine.specs.declared.actions.Action.{Action as ActionOf};
+ghost use Rattle.art_step.specs.declared.actions.Action.{Action as ActionOf};
 ghost use Rattle.art_key.specs.declared.bounds.Bound.{Bound as KeyBound};
 ghost use Rattle.art_look.specs.Driven.{IsSeen};
 ghost use Rattle.art_look.specs.declared.path_buffers.PathBuffer.{PathBuffer as PathBufferOf};
@@ -23,7 +23,7 @@ use crate::walks::Walk;
 use crate::{Aim, Outcome, PathBuffer, Reached, Seen};
 use art_epoch::Pinning;
 use art_key::Bound;
-use art_machine::{Action, Answer};
+use art_step::{Action, Answer};
 
 /// Where a seek stands between two of its steps.
 #[derive(Clone, Copy)]
@@ -182,7 +182,7 @@ impl Seek {
 
     /// How far a look has seen, once it has ended as `Seen`.
     #[inline(always)]
-    fn reached(&self) -> Option<Reached>
+    pub fn reached(&self) -> Option<Reached>
         ensures { result ≡ reached_by (ended_at self.now) self.now.walk }
     {
         match self.ended() {

@@ -6,11 +6,11 @@
 ghost use Rattle.std.specs.Prelude.{◌≡◌, ◌+◌, ◌<◌, ◌≤◌, ◌⊎◌, ℕ, List, Some, false};
 ghost use Rattle.art_cell.specs.declared.cells.Cell.{Cell as CellOf};
 ghost use Rattle.art_find.specs.Asking.{WantsCheck, WantsVersion, WantsWord};
-ghost use Rattle.art_machine.specs.Acting.{Answers, telling};
+ghost use Rattle.art_step.specs.Acting.{Answers, telling};
 ghost use Rattle.art_find.specs.Descents.{IsReading};
-ghost use Rattle.art_machine.specs.declared.actions.Answer.TheVariants as told;
-ghost use Rattle.art_machine.specs.declared.actions.Action.{Action as ActionOf};
-ghost use Rattle.art_machine.specs.declared.actions.Action.TheVariants as askeds;
+ghost use Rattle.art_step.specs.declared.actions.Answer.TheVariants as told;
+ghost use Rattle.art_step.specs.declared.actions.Action.{Action as ActionOf};
+ghost use Rattle.art_step.specs.declared.actions.Action.TheVariants as askeds;
 ghost use Rattle.art_key.specs.declared.bounds.Bound.{Bound as KeyBound};
 ghost use Rattle.art_look.specs.Driven.{LookFits};
 ghost use Rattle.art_look.specs.Looks.{Fits, asks, has_ended, least_steps, most_steps};
@@ -30,7 +30,7 @@ use art_step::{Changed, Locked, Stamp, Steps};
 
 /// Makes the steps of a look of the range from the key on, one after another, as long as more than one turn is left: not the check that
 /// settles what it has seen.
-pub fn look_on<S: Steps>(
+pub(crate) fn look_on<S: Steps>(
     steps: &mut S,
     tally: &mut Tally,
     look: &mut Look,

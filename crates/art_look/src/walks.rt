@@ -1,11 +1,11 @@
 //! A descent by a key, or a look of a range.
 ghost use Rattle.std.specs.Prelude.{◌≡◌, ℕ, List, length, ◌<◌, ◌≤◌, Option, None, Some};
 ghost use Rattle.art_find.specs.Asking.{MayLook};
-ghost use Rattle.art_machine.specs.Acting.{Answers, goes_on, telling};
+ghost use Rattle.art_step.specs.Acting.{Answers, goes_on, telling};
 ghost use Rattle.art_find.specs.Driven.{get_done, restarts_after};
-ghost use Rattle.art_machine.specs.declared.actions.Action.{Action as ActionOf};
-ghost use Rattle.art_machine.specs.declared.actions.Answer.TheVariants as answers;
-ghost use Rattle.art_machine.specs.declared.actions.Action.TheVariants.{Settle as settle_asked};
+ghost use Rattle.art_step.specs.declared.actions.Action.{Action as ActionOf};
+ghost use Rattle.art_step.specs.declared.actions.Answer.TheVariants as answers;
+ghost use Rattle.art_step.specs.declared.actions.Action.TheVariants.{Settle as settle_asked};
 ghost use Rattle.art_key.specs.declared.bounds.Bound.{Bound as KeyBound};
 ghost use Rattle.art_look.specs.Looks as looks;
 ghost use Rattle.art_look.specs.declared.path_buffers.PathBuffer.{PathBuffer as PathBufferOf};
@@ -15,12 +15,12 @@ ghost use Rattle.art_step.specs.declared.views.Sizes.{Sizes};
 ghost use Rattle.art_step.specs.declared.views.Stamp.{Stamp as StampOf};
 ghost use Rattle.art_step.specs.declared.views.View.{View};
 
-use crate::{Look, LookStage, PathBuffer, Reach, Reached, look_on};
+use crate::straight::look_on;
+use crate::{Look, LookStage, PathBuffer, Reach, Reached};
 use art_find::{Descent, Stage, Tally, Verdict, go_down};
 use art_key::{Bound, Key};
-use art_machine::{Action, Answer};
 use art_model::Answer as Reply;
-use art_step::{Act, Changed, Deed, Stamp, Steps};
+use art_step::{Act, Action, Answer, Changed, Deed, Stamp, Steps};
 
 /// What is looked for.
 #[derive(Clone, Copy, Debug, PartialEq, Eq)]

@@ -2,10 +2,12 @@
 pub use Rattle.art_commit.proofs as ArtCommit
 mod AbovePuts
 pub mod AboveSites
+mod Allowed
 mod BesideWords
 mod BodyForms
 pub mod ChildPlaces
 mod ChildSites
+pub mod Committing
 mod CutWords
 mod EmptyTrees
 pub mod FewChildren
@@ -15,10 +17,13 @@ mod FreeBytes
 mod FullNodes
 pub mod GoneNodes
 mod GrownNodes
+mod Holding
+pub mod Keeping
 mod LedChildren
 mod LeftChildren
 mod ListedPairs
 mod LockedCells
+mod Locking
 mod LowerNodes
 mod MadeChanges
 mod MadeNodes
@@ -27,7 +32,6 @@ pub mod NamedChildren
 mod NewWords
 mod OtherChildren
 mod OtherLeaves
-mod PrefixMismatches
 mod PlannedAdds
 mod PlannedDrops
 mod PlannedForks
@@ -37,6 +41,7 @@ mod PlannedPrefixes
 mod PlannedShrinks
 mod Planning
 mod PrefixBytes
+mod PrefixMismatches
 mod PutWords
 mod ReadyCells
 pub mod Renewing
@@ -46,5 +51,7 @@ pub mod SeenBodies
 mod ShrunkNodes
 pub mod SiteWords
 mod SmallerNodes
+pub mod Told
 pub mod WholeCells
 pub mod WordsWithin
+pub mod Written

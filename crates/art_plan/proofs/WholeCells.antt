@@ -22,7 +22,7 @@ use Rattle.art_find.specs.Rereadings.{AreKnown}
 use Rattle.art_find.specs.declared.read_sets.ReadSet.{ReadSet}
 use Rattle.art_find.specs.declared.findings.Above.{Above}
 use Rattle.art_find.specs.declared.findings.Position.{Position}
-use Rattle.art_machine.specs.Acting.{HasPath}
+use Rattle.art_step.specs.Acting.{HasPath}
 use Rattle.art_plan.specs.Changes.{MayTarget}
 use Rattle.art_plan.specs.Seen.{IsReadRoot, IsReadWhole, kept}
 use Rattle.art_step.proofs.WordForms.{no_word}

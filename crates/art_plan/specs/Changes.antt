@@ -10,8 +10,8 @@ use Rattle.art_cell.specs.declared.cells.Link.{Link}
 use Rattle.art_cell.specs.declared.cells.Link.TheVariants.{Node as node}
 use Rattle.art_cell.specs.declared.cells.Node.{Node}
 use Rattle.art_key.specs.declared.bounds.Bound.TheVariants.{End}
-use Rattle.art_machine.specs.Acting as effects
-use Rattle.art_machine.specs.declared.actions.Effects.{Effects}
+use Rattle.art_step.specs.Acting as effects
+use Rattle.art_step.specs.declared.actions.Effects.{Effects}
 use Rattle.art_plan.specs.declared.changes.Change.{Change}
 use Rattle.art_plan.specs.declared.changes.Put.{Put}
 use Rattle.art_plan.specs.declared.changes.Target.{Target}

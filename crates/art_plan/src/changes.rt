@@ -13,9 +13,8 @@ ghost use Rattle.art_plan.specs.declared.changes.Site.TheVariants.{Slot};
 use arrayvec::ArrayVec;
 use art_cell::{Body, Cell, Layout, Node, Reads, Write, Writes};
 use art_key::{Bound, Key};
-use art_machine::Effects;
 use art_node::{plan_add, plan_drop, plan_set};
-use art_step::{Deed, Stamp};
+use art_step::{Deed, Effects, Stamp};
 
 /// A cell that a change locks under its stamp, and whether it becomes obsolete when it is released.
 #[derive(Clone, Copy)]

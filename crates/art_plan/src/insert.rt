@@ -5,7 +5,7 @@
 //! A pass has gone down an Adaptive Radix Tree (ICDE 2013) by a key and found that no leaf has it. It has read all words of the
 //! cells that it will write, each under its stamp, and checked them (DaMoN 2016). The words of a leaf with the key and the value
 //! are written, under a number in its hand (`NewLeaf`). What is left to do is a `Change` of `art_plan`, which says before the
-//! first lock which cells are locked, which words they get and what goes. Here that value is made; `art_make` carries it out.
+//! first lock which cells are locked, which words they get and what goes. Here that value is made; `apply` carries it out.
 //!
 //! # The place
 //!

@@ -1,9 +1,19 @@
-//! What a change of the tree does at one commit, as values.
+//! A change of the tree: planned as a value, and made with one commit.
+//!
+//! # The problem
+//!
+//! A pass has found what to change, and read and checked what it found (DaMoN 2016). Now it locks just the cells that it
+//! writes, by upgrading their stamps. Another pass may have been there first: then the upgrade fails, and nothing may be
+//! left locked or written. Once all are locked nobody else can change them, and all that was noted under their stamps goes on
+//! holding. Then the words are written one after another, and no reader takes what it sees of them for true, since the
+//! version words stay locked until the cells are released. The first release is the commit: at that one step the tree is
+//! changed, and the event is made.
+//!
+//! So a change is planned first, without a step, and then made.
 //!
 //! # A change
 //!
-//! A pass that changes the tree (DaMoN 2016) locks the cells that it writes, writes them, and releases them; the first
-//! release is the commit. A `Change` says all of it before the first cell is locked:
+//! A `Change` says what is to be done before the first cell is locked:
 //!
 //! | part | what it is |
 //! |---|---|
@@ -43,16 +53,50 @@
 //! | `remove` | the four changes of a removal |
 //! | `choose_insert` | which change an insert makes, by where its key stands, planned from the words that a descent kept |
 //! | `choose_remove` | which change a removal makes, by where its leaf stands |
+//! | `apply` | the machine that makes a change that was planned |
 //!
-//! `art_make` makes a change that was planned.
+//! # How it is made
+//!
+//! ```text
+//! upgrade ── the targets, from the top down ──┐ one fails: those that are locked are released unchanged, and it has failed
+//!    ▼
+//! claim ──── the new node, whose number is in hand, then the copy
+//!    ▼
+//! write ──── all words of the new node, then of the copy, then the words that are put into the targets
+//!    ▼
+//! commit ─── release of the uppermost target: the event
+//!    ▼
+//! release ── the other targets from the top down, as obsolete where they leave the tree; then the new node, then the copy
+//! ```
+//!
+//! All upgrades come before the claims and the first write: a claimed node could not be given up, as it is locked, and not
+//! obsolete as a number in hand is.
+//!
+//! `Apply` is the machine that makes them: a value of scalars with `next` and `told`, as that of `art_find`. The change stands
+//! beside it and stays as it is. `perform` of `art_step` makes the step that it asks for.
+//! `run` makes all steps that are left. The words of each new node, of which there may be 265, are written in a loop of their own.
+//!
+//! # Where it fails
+//!
+//! An upgrade finds another version word (`Changed`), or it is refused as its counter is at its end (`Exhausted`), which is no
+//! step. What is locked by then is released, from the top down, with nothing written. Nothing is told and the numbers stay
+//! in hand, so that whoever drives it may restart.
 //!
 //! # A worn node
 //!
 //! A counter that has come far is renewed: a copy of the node, with a number of its own, takes its place in the same change.
 //! `renew` adds that to a plan where the node's parent is no target, and `renew_below` where the new node is the parent. The
 //! result is a plan for two new nodes (`IsWhole`, `specs/Whole.antt`). No machine calls them yet.
+//!
+//! # What is proved
+//!
+//! What a planner makes is a plan. Each step of its making may be made (`next`), and each answer keeps what the machine knows
+//! (`told`). When it has ended nothing is held; either the event of the deed was made, what comes left the hand and what goes
+//! is in limbo (`IsCommitted`), or an upgrade failed for one of its two causes and nothing was told (`HasFailed`). It makes at
+//! most 580 steps.
 #![tactic(auto)]
 
+mod apply;
 mod changes;
 mod choose_insert;
 mod choose_remove;
@@ -60,6 +104,7 @@ mod insert;
 mod remove;
 mod renewals;
 
+pub use apply::Apply;
 pub use art_find;
 pub use changes::{Below, Bodies, Change, Put, Site, Target, Twin, blank};
 pub use choose_insert::{Needs, needed, plan_insert};

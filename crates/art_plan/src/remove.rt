@@ -5,7 +5,7 @@
 //! A pass has gone down an Adaptive Radix Tree (ICDE 2013) by a key and found the leaf that has it, with a value (`OldLeaf`). It
 //! has read all words of the nodes that it will write or that go, each under its stamp, and checked them (DaMoN 2016). What is
 //! left to do is a `Change` of `art_plan`, which says before the first lock which cells are locked, which words they get and what
-//! goes. Here that value is made; `art_make` carries it out.
+//! goes. Here that value is made; `apply` carries it out.
 //!
 //! # The place
 //!

@@ -2,12 +2,12 @@
 use Rattle.std.proofs.Common.{◌≡◌, ◌≢◌, ◌⊎◌, ◌+◌, ◌<◌, ◌∙◌, ◌∷◌, ℕ, true, false, List, [], Option, Some, None, length, slice_get, inl, inr, refl, sym, ap, subst, arith, ⊎_elim}
 use Rattle.std.proofs.lemmas.Bool.{cases_eq}
 use Rattle.std.proofs.lemmas.Option.{same_Some, slice_get_within}
-use Rattle.art_call.specs.AsAsked.{GoesAsAsked}
-use Rattle.art_call.specs.Calls.{Get, GoesOn, Insert, IsCalling, Look, Remove, Wish, restarts_in}
-use Rattle.art_call.specs.declared.callers.Call.{Call}
-use Rattle.art_call.specs.declared.callers.Call.TheVariants as call
-use Rattle.art_call.specs.declared.callers.Caller.{Caller}
-use Rattle.art_call.specs.declared.driver.Made.{Made}
+use Rattle.art_change.specs.AsAsked.{GoesAsAsked}
+use Rattle.art_change.specs.Calls.{Get, GoesOn, Insert, IsCalling, Look, Remove, Wish, restarts_in}
+use Rattle.art_change.specs.declared.callers.Call.{Call}
+use Rattle.art_change.specs.declared.callers.Call.TheVariants as call
+use Rattle.art_change.specs.declared.callers.Caller.{Caller}
+use Rattle.art_change.specs.declared.driver.Made.{Made}
 use Rattle.art_runs.specs.Alone.{AreTurnsOf, GoesAlone, NamesNoOp}
 use Rattle.art_runs.specs.Ops.{AsksLast, EndsAsCalled, Goes, IsRunOfOps, IsTurnOf, IsUnderWay, MakesLast, caller_in, has_ended, last_in, outcome_in}
 use Rattle.art_runs.specs.declared.ops.Op.{Op}

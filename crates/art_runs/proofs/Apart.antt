@@ -7,22 +7,22 @@ use Rattle.std.specs.List.{slice_get}
 use Rattle.std.specs.Option.{option_map}
 use Rattle.std.specs.Prelude.{slice_set}
 use Rattle.arrayvec.specs.ArrayVec.{ArrayVec}
-use Rattle.art_call.proofs.ArtAttempt.Overlaps.{none_overlaps}
-use Rattle.art_call.proofs.ArtChange.Overlaps.{overlap_counts}
-use Rattle.art_call.specs.ArtChange.Writes as writes
-use Rattle.art_call.specs.ArtChange.declared.writes.Outcome.{Outcome as WriteOutcome}
-use Rattle.art_call.specs.ArtChange.declared.writes.Outcome.TheVariants as wrote
-use Rattle.art_call.specs.ArtChange.declared.writes.Stage.{Stage}
-use Rattle.art_call.specs.ArtChange.declared.writes.Stage.TheVariants as stage
-use Rattle.art_call.specs.ArtLook.declared.looks.Seen.{Seen}
-use Rattle.art_call.specs.ArtLook.declared.walks.Outcome.{Outcome as SeekOutcome}
-use Rattle.art_call.specs.ArtLook.declared.walks.Outcome.TheVariants as sought
-use Rattle.art_call.specs.Calls.{FindsOverlap, Get, GoesOn, Insert, IsAdmitted, Look, Remove, StaysApart, Wish, finds_overlap, outcome_of, stays_apart}
-use Rattle.art_call.specs.Outcomes.{of_seek, of_write}
-use Rattle.art_call.specs.declared.callers.Call.{Call}
-use Rattle.art_call.specs.declared.callers.Call.TheVariants as call
-use Rattle.art_call.specs.declared.callers.Caller.{Caller}
-use Rattle.art_call.specs.declared.outcomes.Outcome.TheVariants as outcome
+use Rattle.art_change.proofs.ArtAttempt.Overlaps.{none_overlaps}
+use Rattle.art_change.proofs.Overlaps.{overlap_counts}
+use Rattle.art_change.specs.Writes as writes
+use Rattle.art_change.specs.declared.writes.WriteOutcome.{WriteOutcome}
+use Rattle.art_change.specs.declared.writes.WriteOutcome.TheVariants as wrote
+use Rattle.art_change.specs.declared.writes.Stage.{Stage}
+use Rattle.art_change.specs.declared.writes.Stage.TheVariants as stage
+use Rattle.art_change.specs.ArtLook.declared.looks.Seen.{Seen}
+use Rattle.art_change.specs.ArtLook.declared.walks.Outcome.{Outcome as SeekOutcome}
+use Rattle.art_change.specs.ArtLook.declared.walks.Outcome.TheVariants as sought
+use Rattle.art_change.specs.Calls.{FindsOverlap, Get, GoesOn, Insert, IsAdmitted, Look, Remove, StaysApart, Wish, finds_overlap, outcome_of, stays_apart}
+use Rattle.art_change.specs.Outcomes.{of_seek, of_write}
+use Rattle.art_change.specs.declared.callers.Call.{Call}
+use Rattle.art_change.specs.declared.callers.Call.TheVariants as call
+use Rattle.art_change.specs.declared.callers.Caller.{Caller}
+use Rattle.art_change.specs.declared.outcomes.Outcome.TheVariants as outcome
 use Rattle.art_key.specs.Spelling.{IsKeyOf}
 use Rattle.art_key.specs.declared.columns.Column.{Column}
 use Rattle.art_runs.proofs.Found.{found_is}

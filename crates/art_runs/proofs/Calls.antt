@@ -4,29 +4,29 @@ use Rattle.std.proofs.lemmas.Bool.{cond_both}
 use Rattle.std.proofs.lemmas.List.{append_cancel_right}
 use Rattle.std.specs.Prelude.{nat_lt}
 use Rattle.arrayvec.specs.ArrayVec.{ArrayVec}
-use Rattle.art_call.specs.ArtAttempt.declared.attempts.Room.{Room}
-use Rattle.art_call.specs.AsAsked.{GoesBy, WriteWaits}
-use Rattle.art_call.specs.Calls.{Get, GoesOn, HasGroundOf, Insert, IsGround, Look, Remove, Wish, may_end}
-use Rattle.art_call.specs.Outcomes.{of_write}
-use Rattle.art_call.specs.declared.callers.Call.{Call}
-use Rattle.art_call.specs.declared.callers.Call.TheVariants as call
-use Rattle.art_call.specs.declared.callers.Caller.{Caller}
-use Rattle.art_call.specs.declared.outcomes.Outcome.{Outcome}
-use Rattle.art_call.specs.declared.outcomes.Outcome.TheVariants as outcome
-use Rattle.art_call.specs.ArtChange.Writes as writes
-use Rattle.art_call.specs.ArtAttempt.declared.attempts.Job.{Job}
-use Rattle.art_call.specs.ArtChange.declared.writes.Outcome.{Outcome as WriteOutcome}
-use Rattle.art_call.specs.ArtChange.declared.writes.Outcome.TheVariants as wrote
-use Rattle.art_call.specs.ArtChange.declared.writes.Write.{Write}
+use Rattle.art_change.specs.ArtAttempt.declared.attempts.Room.{Room}
+use Rattle.art_change.specs.AsAsked.{GoesBy, WriteWaits}
+use Rattle.art_change.specs.Calls.{Get, GoesOn, HasGroundOf, Insert, IsGround, Look, Remove, Wish, may_end}
+use Rattle.art_change.specs.Outcomes.{of_write}
+use Rattle.art_change.specs.declared.callers.Call.{Call}
+use Rattle.art_change.specs.declared.callers.Call.TheVariants as call
+use Rattle.art_change.specs.declared.callers.Caller.{Caller}
+use Rattle.art_change.specs.declared.outcomes.Outcome.{Outcome}
+use Rattle.art_change.specs.declared.outcomes.Outcome.TheVariants as outcome
+use Rattle.art_change.specs.Writes as writes
+use Rattle.art_change.specs.ArtAttempt.declared.attempts.Job.{Job}
+use Rattle.art_change.specs.declared.writes.WriteOutcome.{WriteOutcome}
+use Rattle.art_change.specs.declared.writes.WriteOutcome.TheVariants as wrote
+use Rattle.art_change.specs.declared.writes.Write.{Write}
 use Rattle.art_epoch.specs.Limbo.{places_of}
 use Rattle.art_epoch.specs.Pins.{view_advanced}
 use Rattle.art_epoch.specs.Reclaiming.{Look as LookAt, view_watched}
 use Rattle.art_epoch.specs.declared.limbo.Place.{Place}
-use Rattle.art_call.specs.ArtEpoch.Enter.{IsCrowded}
-use Rattle.art_call.specs.ArtEpoch.declared.enter.Blocker.{Blocker}
+use Rattle.art_change.specs.ArtEpoch.Enter.{IsCrowded}
+use Rattle.art_change.specs.ArtEpoch.declared.enter.Blocker.{Blocker}
 use Rattle.art_key.specs.declared.bounds.Bound.{Bound}
-use Rattle.art_call.specs.ArtLook.Seeks as seeks
-use Rattle.art_call.specs.ArtLook.declared.seeks.Seek.{Seek}
+use Rattle.art_change.specs.ArtLook.Seeks as seeks
+use Rattle.art_change.specs.ArtLook.declared.seeks.Seek.{Seek}
 use Rattle.art_runs.proofs.OthersIdle.{alone_on, idle_current}
 use Rattle.art_runs.proofs.Calm.{IsMoment}
 use Rattle.art_runs.proofs.Finding.{finds_on, finds_start}

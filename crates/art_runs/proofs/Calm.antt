@@ -6,15 +6,15 @@ use Rattle.art_cell.specs.declared.cells.Cell.{Cell}
 use Rattle.art_cell.specs.declared.cells.Cell.TheVariants as cell
 use Rattle.art_cell.specs.declared.cells.Link.TheVariants.{Node as node}
 use Rattle.art_cell.specs.declared.cells.Pool.{Pool}
-use Rattle.art_call.proofs.ArtFind.Allowed.{none_held}
-use Rattle.art_call.proofs.ArtChange.FrameSteps.{IsFrame}
-use Rattle.art_machine.specs.Acting.{Answers, IsLook}
-use Rattle.art_machine.specs.declared.actions.Action.{Action}
-use Rattle.art_machine.specs.declared.actions.Action.TheVariants.{Begin, Read, ReadLeaf, Check, Settle, Upgrade, Claim, Write, WriteLeaf, Commit, Release}
-use Rattle.art_machine.specs.declared.actions.Action.TheVariants.{ClearBit, GiveBack, Free, ReadEpoch, StorePin, RaiseEpoch, ReadPin}
-use Rattle.art_machine.specs.declared.actions.Answer.{Answer}
-use Rattle.art_machine.specs.declared.actions.Answer.TheVariants.{Begun, Word, Checked, Upgraded, Done}
-use Rattle.art_machine.specs.declared.actions.Effects.{Effects}
+use Rattle.art_change.proofs.ArtFind.Allowed.{none_held}
+use Rattle.art_change.proofs.FrameSteps.{IsFrame}
+use Rattle.art_step.specs.Acting.{Answers, IsLook}
+use Rattle.art_step.specs.declared.actions.Action.{Action}
+use Rattle.art_step.specs.declared.actions.Action.TheVariants.{Begin, Read, ReadLeaf, Check, Settle, Upgrade, Claim, Write, WriteLeaf, Commit, Release}
+use Rattle.art_step.specs.declared.actions.Action.TheVariants.{ClearBit, GiveBack, Free, ReadEpoch, StorePin, RaiseEpoch, ReadPin}
+use Rattle.art_step.specs.declared.actions.Answer.{Answer}
+use Rattle.art_step.specs.declared.actions.Answer.TheVariants.{Begun, Word, Checked, Upgraded, Done}
+use Rattle.art_step.specs.declared.actions.Effects.{Effects}
 use Rattle.art_runs.proofs.OthersIdle.{clear_unless}
 use Rattle.art_runs.proofs.Found.{found_is}
 use Rattle.art_runs.proofs.Versions.{SameCells, versions_stay}

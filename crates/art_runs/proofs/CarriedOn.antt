@@ -1,7 +1,7 @@
 -- What a list of turns makes of an op.
 use Rattle.std.proofs.Common.{◌≡◌, ℕ, List, Some}
 use Rattle.std.specs.List.{slice_get}
-use Rattle.art_call.specs.Calls.{IsCalling, Wish, told_by}
+use Rattle.art_change.specs.Calls.{IsCalling, Wish, told_by}
 use Rattle.art_runs.proofs.Apart.{run_apart}
 use Rattle.art_runs.proofs.Endings.{turns_end}
 use Rattle.art_runs.proofs.Told.{calling_tells}

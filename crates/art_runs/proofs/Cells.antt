@@ -10,36 +10,36 @@ use Rattle.art_cell.specs.declared.cells.Cell.{Cell}
 use Rattle.art_cell.specs.declared.cells.Cell.TheVariants as cell
 use Rattle.art_cell.specs.declared.cells.Link.TheVariants.{Node as node}
 use Rattle.art_cell.specs.declared.cells.Node.{Node}
-use Rattle.art_call.proofs.ArtPlan.SeenBodies.{stands}
-use Rattle.art_call.proofs.ArtPlan.WholeCells.{IsWhole, body_read, has_read, node_whole}
-use Rattle.art_call.specs.ArtPlan.ChooseInsert.Bodies.{HasWords, IsFilled}
-use Rattle.art_call.proofs.ArtFind.Allowed.{none_held}
-use Rattle.art_call.specs.ArtFind.Descents as descents
-use Rattle.art_machine.specs.declared.actions.Action.{Action}
-use Rattle.art_machine.specs.declared.actions.Action.TheVariants.{Begin, Read}
-use Rattle.art_call.specs.ArtFind.declared.descents.Stage.{Stage}
-use Rattle.art_call.specs.ArtFind.declared.descents.Stage.TheVariants as descent
-use Rattle.art_call.specs.ArtAttempt.Naming as naming
-use Rattle.art_call.specs.ArtAttempt.Naming.{StillNames}
-use Rattle.art_call.specs.ArtAttempt.Validate as validate
-use Rattle.art_call.specs.ArtAttempt.Validate.{checks_of, reads_by}
-use Rattle.art_call.specs.ArtAttempt.declared.naming.Naming.{Naming}
-use Rattle.art_call.specs.ArtAttempt.declared.naming.Naming.TheVariants as names
-use Rattle.art_call.specs.ArtAttempt.declared.validate.Cells.{Cells as CellsOf}
-use Rattle.art_call.specs.ArtAttempt.declared.validate.Role.TheVariants.{Lower}
-use Rattle.art_call.specs.ArtAttempt.declared.validate.Validate.{Validate}
-use Rattle.art_call.specs.ArtAttempt.declared.validate.Validate.TheVariants as checks
+use Rattle.art_change.proofs.ArtPlan.SeenBodies.{stands}
+use Rattle.art_change.proofs.ArtPlan.WholeCells.{IsWhole, body_read, has_read, node_whole}
+use Rattle.art_change.specs.ArtPlan.ChooseInsert.Bodies.{HasWords, IsFilled}
+use Rattle.art_change.proofs.ArtFind.Allowed.{none_held}
+use Rattle.art_change.specs.ArtFind.Descents as descents
+use Rattle.art_step.specs.declared.actions.Action.{Action}
+use Rattle.art_step.specs.declared.actions.Action.TheVariants.{Begin, Read}
+use Rattle.art_change.specs.ArtFind.declared.descents.Stage.{Stage}
+use Rattle.art_change.specs.ArtFind.declared.descents.Stage.TheVariants as descent
+use Rattle.art_change.specs.ArtAttempt.Naming as naming
+use Rattle.art_change.specs.ArtAttempt.Naming.{StillNames}
+use Rattle.art_change.specs.ArtAttempt.Validate as validate
+use Rattle.art_change.specs.ArtAttempt.Validate.{checks_of, reads_by}
+use Rattle.art_change.specs.ArtAttempt.declared.naming.Naming.{Naming}
+use Rattle.art_change.specs.ArtAttempt.declared.naming.Naming.TheVariants as names
+use Rattle.art_change.specs.ArtAttempt.declared.validate.Cells.{Cells as CellsOf}
+use Rattle.art_change.specs.ArtAttempt.declared.validate.Role.TheVariants.{Lower}
+use Rattle.art_change.specs.ArtAttempt.declared.validate.Validate.{Validate}
+use Rattle.art_change.specs.ArtAttempt.declared.validate.Validate.TheVariants as checks
 use Rattle.art_key.specs.declared.bounds.Bound.{Bound}
-use Rattle.art_call.specs.ArtLook.Looks as looks
-use Rattle.art_call.specs.ArtLook.declared.looks.LookStage.{LookStage}
-use Rattle.art_call.specs.ArtLook.declared.looks.LookStage.TheVariants as look
-use Rattle.art_call.specs.ArtLook.declared.path_buffers.PathBuffer.{PathBuffer}
-use Rattle.art_call.specs.ArtFind.ReadSets.{node_of}
-use Rattle.art_call.specs.ArtFind.Rereadings.{reads_next}
-use Rattle.art_call.specs.ArtFind.declared.read_sets.ReadSet.{ReadSet}
-use Rattle.art_call.specs.ArtFind.declared.findings.Position.{Position}
-use Rattle.art_call.specs.ArtFind.declared.read_sets.Rereading.{Rereading}
-use Rattle.art_call.proofs.ArtPlan.ChildPlaces.{IsPlaceOf, place_byte}
+use Rattle.art_change.specs.ArtLook.Looks as looks
+use Rattle.art_change.specs.ArtLook.declared.looks.LookStage.{LookStage}
+use Rattle.art_change.specs.ArtLook.declared.looks.LookStage.TheVariants as look
+use Rattle.art_change.specs.ArtLook.declared.path_buffers.PathBuffer.{PathBuffer}
+use Rattle.art_change.specs.ArtFind.ReadSets.{node_of}
+use Rattle.art_change.specs.ArtFind.Rereadings.{reads_next}
+use Rattle.art_change.specs.ArtFind.declared.read_sets.ReadSet.{ReadSet}
+use Rattle.art_change.specs.ArtFind.declared.findings.Position.{Position}
+use Rattle.art_change.specs.ArtFind.declared.read_sets.Rereading.{Rereading}
+use Rattle.art_change.proofs.ArtPlan.ChildPlaces.{IsPlaceOf, place_byte}
 use Rattle.art_runs.proofs.Calm.{IsCellFounded, IsLedTo}
 use Rattle.art_step.proofs.Shows.{child_on}
 use Rattle.art_step.specs.Knowledge.{HoldsAll, IsShape}

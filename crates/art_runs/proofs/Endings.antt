@@ -6,24 +6,24 @@ use Rattle.std.proofs.lemmas.Option.{same_Some, slice_get_within}
 use Rattle.std.specs.List.{slice_get}
 use Rattle.std.specs.Option.{is_some, option_map}
 use Rattle.std.specs.Prelude.{slice_set}
-use Rattle.art_call.specs.ArtAttempt.declared.attempts.Room.{Room}
-use Rattle.art_call.specs.ArtChange.Writes as writes
-use Rattle.art_call.specs.ArtChange.declared.writes.Stage.{Stage}
-use Rattle.art_call.specs.ArtChange.declared.writes.Stage.TheVariants as write
-use Rattle.art_call.specs.ArtChange.declared.writes.Write.{Write}
-use Rattle.art_call.specs.ArtEpoch.Exit as exits
-use Rattle.art_call.specs.ArtEpoch.declared.exit.Exit.{Exit}
-use Rattle.art_call.specs.ArtEpoch.declared.exit.Exit.TheVariants.{Ended, Giving, Labelling}
-use Rattle.art_call.specs.ArtEpoch.declared.stocks.Stock.{Stock}
-use Rattle.art_call.specs.ArtLook.Seeks as seeks
-use Rattle.art_call.specs.ArtLook.declared.seeks.Seek.{Seek}
-use Rattle.art_call.specs.ArtLook.declared.seeks.SeekStage.{SeekStage}
-use Rattle.art_call.specs.ArtLook.declared.seeks.SeekStage.TheVariants as seek
-use Rattle.art_call.specs.Calls.{Get, GoesOn, Insert, IsCalling, Look, Remove, Wish, left_in, outcome_of}
-use Rattle.art_call.specs.declared.callers.Call.{Call}
-use Rattle.art_call.specs.declared.callers.Call.TheVariants as call
-use Rattle.art_call.specs.declared.callers.Caller.{Caller}
-use Rattle.art_call.specs.declared.outcomes.Outcome.{Outcome}
+use Rattle.art_change.specs.ArtAttempt.declared.attempts.Room.{Room}
+use Rattle.art_change.specs.Writes as writes
+use Rattle.art_change.specs.declared.writes.Stage.{Stage}
+use Rattle.art_change.specs.declared.writes.Stage.TheVariants as write
+use Rattle.art_change.specs.declared.writes.Write.{Write}
+use Rattle.art_change.specs.ArtEpoch.Exit as exits
+use Rattle.art_change.specs.ArtEpoch.declared.exit.Exit.{Exit}
+use Rattle.art_change.specs.ArtEpoch.declared.exit.Exit.TheVariants.{Ended, Giving, Labelling}
+use Rattle.art_change.specs.ArtEpoch.declared.stocks.Stock.{Stock}
+use Rattle.art_change.specs.ArtLook.Seeks as seeks
+use Rattle.art_change.specs.ArtLook.declared.seeks.Seek.{Seek}
+use Rattle.art_change.specs.ArtLook.declared.seeks.SeekStage.{SeekStage}
+use Rattle.art_change.specs.ArtLook.declared.seeks.SeekStage.TheVariants as seek
+use Rattle.art_change.specs.Calls.{Get, GoesOn, Insert, IsCalling, Look, Remove, Wish, left_in, outcome_of}
+use Rattle.art_change.specs.declared.callers.Call.{Call}
+use Rattle.art_change.specs.declared.callers.Call.TheVariants as call
+use Rattle.art_change.specs.declared.callers.Caller.{Caller}
+use Rattle.art_change.specs.declared.outcomes.Outcome.{Outcome}
 use Rattle.art_epoch.specs.declared.limbo.Place.{Place}
 use Rattle.art_epoch.specs.Limbo.{places_of}
 use Rattle.art_runs.specs.Ops.{Goes, IsRunOfOps, IsUnderWay, caller_in, has_ended, outcome_in, turns_of}

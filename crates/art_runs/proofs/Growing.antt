@@ -1,8 +1,8 @@
 -- What a pass has seen grows, and each event of its own is one more place.
 use Rattle.std.proofs.Common.{◌≡◌, ◌⊎◌, ◌++◌, ◌+◌, ◌<◌, ◌≤◌, ◌∙◌, ℕ, Bool, true, false, List, [], ◌∷◌, Option, Some, None, length, inl, inr, sym, ap, arith, append-nil, append_assoc}
 use Rattle.std.proofs.lemmas.List.{length-append}
-use Rattle.art_call.specs.Made.{MakesAny}
-use Rattle.art_call.specs.declared.driver.Made.{Made}
+use Rattle.art_change.specs.Made.{MakesAny}
+use Rattle.art_change.specs.declared.driver.Made.{Made}
 use Rattle.art_runs.specs.Ops.{MakesLast}
 use Rattle.art_step.specs.Events.{MakesEvent, SeesEvent}
 use Rattle.art_step.specs.Histories.{StartsWith, event}

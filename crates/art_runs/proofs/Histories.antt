@@ -4,9 +4,9 @@ use Rattle.std.proofs.lemmas.List.{length-append}
 use Rattle.std.proofs.lemmas.Option.{same_Some, slice_get_within}
 use Rattle.std.specs.List.{slice_get}
 use Rattle.std.specs.Prelude.{⊤}
-use Rattle.art_call.specs.Calls.{Get, Insert, IsAdmitted as MayWish, Look, Remove, Wish, told_by}
-use Rattle.art_call.specs.declared.outcomes.Outcome.{Outcome}
-use Rattle.art_call.specs.declared.outcomes.Outcome.TheVariants as outcome
+use Rattle.art_change.specs.Calls.{Get, Insert, IsAdmitted as MayWish, Look, Remove, Wish, told_by}
+use Rattle.art_change.specs.declared.outcomes.Outcome.{Outcome}
+use Rattle.art_change.specs.declared.outcomes.Outcome.TheVariants as outcome
 use Rattle.art_key.specs.Spelling.{IsKeyOf}
 use Rattle.art_key.specs.declared.columns.Column.{Column}
 use Rattle.art_runs.proofs.Places.{either_member, none_between, none_there, of_beginning}

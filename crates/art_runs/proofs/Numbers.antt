@@ -14,17 +14,17 @@ use Rattle.art_epoch.specs.Taking.{IsSeen, SearchFits, around}
 use Rattle.art_epoch.specs.declared.stocks.Search.{Search}
 use Rattle.art_epoch.specs.declared.stocks.Search.TheVariants.{Looking, Clearing, Took}
 use Rattle.art_epoch.specs.declared.stocks.Taking.{Taking}
-use Rattle.art_call.specs.ArtEpoch.Stocks.{IsIn, node_in}
-use Rattle.art_call.specs.ArtEpoch.declared.stocks.Stock.{Stock}
-use Rattle.art_call.specs.ArtAttempt.Reserve as reserve
-use Rattle.art_call.specs.ArtAttempt.Reserve.{leaf_asked}
-use Rattle.art_call.specs.ArtAttempt.declared.reserve.Reserve.{Reserve}
-use Rattle.art_call.specs.ArtAttempt.declared.reserve.Reserve.TheVariants as supplies
-use Rattle.art_call.specs.ArtAttempt.declared.reserve.Demand.{Demand}
-use Rattle.art_call.proofs.ArtAttempt.Asked.{if_some}
-use Rattle.art_machine.specs.declared.actions.Action.{Action}
-use Rattle.art_machine.specs.declared.actions.Action.TheVariants.{ClearBit, WriteLeaf}
-use Rattle.art_call.specs.ArtMake.declared.leaf_writer.LeafWriter.{LeafWriter}
+use Rattle.art_change.specs.ArtEpoch.Stocks.{IsIn, node_in}
+use Rattle.art_change.specs.ArtEpoch.declared.stocks.Stock.{Stock}
+use Rattle.art_change.specs.ArtAttempt.Reserve as reserve
+use Rattle.art_change.specs.ArtAttempt.Reserve.{leaf_asked}
+use Rattle.art_change.specs.ArtAttempt.declared.reserve.Reserve.{Reserve}
+use Rattle.art_change.specs.ArtAttempt.declared.reserve.Reserve.TheVariants as supplies
+use Rattle.art_change.specs.ArtAttempt.declared.reserve.Demand.{Demand}
+use Rattle.art_change.proofs.ArtAttempt.Asked.{if_some}
+use Rattle.art_step.specs.declared.actions.Action.{Action}
+use Rattle.art_step.specs.declared.actions.Action.TheVariants.{ClearBit, WriteLeaf}
+use Rattle.art_change.specs.ArtEpoch.declared.leaf_writer.LeafWriter.{LeafWriter}
 use Rattle.art_runs.proofs.Calm.{IsFounded}
 use Rattle.art_runs.proofs.Finding.{found_since}
 use Rattle.art_runs.specs.OthersIdle.{HasFound}

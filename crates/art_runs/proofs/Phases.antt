@@ -5,41 +5,41 @@ use Rattle.std.proofs.lemmas.Bool.{cases_Bool}
 use Rattle.std.proofs.lemmas.List.{length-append}
 use Rattle.std.specs.Option.{option_and_then, option_map}
 use Rattle.std.specs.Prelude.{◌==◌, ◌++◌}
-use Rattle.art_call.proofs.ArtAttempt.Free.{free_so}
-use Rattle.art_call.proofs.ArtAttempt.Finds.{finding_allowed}
-use Rattle.art_call.proofs.ArtAttempt.Given.{ask_looks}
-use Rattle.art_call.proofs.ArtAttempt.Asked.{IsSupply, naming_asks_look, reads_look, supply_asks_supply, validate_asks_look}
-use Rattle.art_call.specs.ArtAttempt.Cases.{cells_of}
-use Rattle.art_make.proofs.Keeping.{IsMade, asks_made}
-use Rattle.art_call.proofs.ArtAttempt.Left.{tries_some}
-use Rattle.art_call.specs.ArtAttempt.Attempts as attempts
-use Rattle.art_call.specs.ArtAttempt.Attempts.{free_at, held_left, apply_left, tries_left}
-use Rattle.art_make.specs.Apply.{is_begun}
-use Rattle.art_call.specs.ArtAttempt.Trying.{StillTries}
-use Rattle.art_call.specs.ArtAttempt.declared.attempts.Attempt.{Attempt}
-use Rattle.art_call.specs.ArtAttempt.declared.attempts.Stage.{Stage as AttemptStage}
-use Rattle.art_call.specs.ArtAttempt.declared.attempts.Stage.TheVariants as attempt
-use Rattle.art_call.specs.ArtAttempt.declared.attempts.Part.{Part}
-use Rattle.art_call.specs.ArtAttempt.declared.attempts.Part.TheVariants as part
-use Rattle.art_call.specs.ArtFind.declared.findings.Position.{Position}
-use Rattle.art_call.specs.ArtAttempt.declared.attempts.Room.{Room}
+use Rattle.art_change.proofs.ArtAttempt.Free.{free_so}
+use Rattle.art_change.proofs.ArtAttempt.Finds.{finding_allowed}
+use Rattle.art_change.proofs.ArtAttempt.Given.{ask_looks}
+use Rattle.art_change.proofs.ArtAttempt.Asked.{IsSupply, naming_asks_look, reads_look, supply_asks_supply, validate_asks_look}
+use Rattle.art_change.specs.ArtAttempt.Cases.{cells_of}
+use Rattle.art_plan.proofs.Keeping.{IsMade, asks_made}
+use Rattle.art_change.proofs.ArtAttempt.Left.{tries_some}
+use Rattle.art_change.specs.ArtAttempt.Attempts as attempts
+use Rattle.art_change.specs.ArtAttempt.Attempts.{free_at, held_left, apply_left, tries_left}
+use Rattle.art_plan.specs.Apply.{is_begun}
+use Rattle.art_change.specs.ArtAttempt.Trying.{StillTries}
+use Rattle.art_change.specs.ArtAttempt.declared.attempts.Attempt.{Attempt}
+use Rattle.art_change.specs.ArtAttempt.declared.attempts.Stage.{Stage as AttemptStage}
+use Rattle.art_change.specs.ArtAttempt.declared.attempts.Stage.TheVariants as attempt
+use Rattle.art_change.specs.ArtAttempt.declared.attempts.Part.{Part}
+use Rattle.art_change.specs.ArtAttempt.declared.attempts.Part.TheVariants as part
+use Rattle.art_change.specs.ArtFind.declared.findings.Position.{Position}
+use Rattle.art_change.specs.ArtAttempt.declared.attempts.Room.{Room}
 use Rattle.art_cell.specs.declared.cells.Cell.{Cell as CellOf}
 use Rattle.art_cell.specs.declared.cells.Cell.TheVariants as cell
 use Rattle.art_cell.specs.declared.cells.Node.{Node}
-use Rattle.art_call.proofs.ArtMake.Told.{map_some}
-use Rattle.art_call.specs.ArtMake.Apply as apply
-use Rattle.art_call.specs.ArtMake.Apply.{Fails, put_into, releases}
-use Rattle.art_call.specs.ArtMake.declared.apply.Apply.{Apply}
-use Rattle.art_call.specs.ArtMake.declared.apply.Apply.TheVariants.{Upgrading, Claiming, Filling, Writing, Committing, Releasing, ReleasingNode, GivingUp, Ended}
-use Rattle.art_call.specs.ArtPlan.Changes.{put_at, target_at}
-use Rattle.art_call.specs.ArtPlan.Whole.{made_at, made_word}
-use Rattle.art_call.specs.ArtPlan.declared.changes.Change.{Change as ChangeOf}
-use Rattle.art_call.specs.ArtPlan.declared.changes.Put.{Put}
-use Rattle.art_call.specs.ArtPlan.declared.changes.Target.{Target}
-use Rattle.art_machine.specs.Acting.{IsLook}
-use Rattle.art_machine.specs.declared.actions.Action.{Action}
-use Rattle.art_machine.specs.declared.actions.Action.TheVariants.{Begin, Read, ReadLeaf, Check, Settle, Upgrade, Claim, Write, WriteLeaf, Commit, Release}
-use Rattle.art_machine.specs.declared.actions.Action.TheVariants.{ClearBit, GiveBack, Free, ReadEpoch, StorePin, RaiseEpoch, ReadPin}
+use Rattle.art_change.proofs.ArtPlan.Told.{map_some}
+use Rattle.art_change.specs.ArtPlan.Apply as apply
+use Rattle.art_change.specs.ArtPlan.Apply.{Fails, put_into, releases}
+use Rattle.art_change.specs.ArtPlan.declared.apply.Apply.{Apply}
+use Rattle.art_change.specs.ArtPlan.declared.apply.Apply.TheVariants.{Upgrading, Claiming, Filling, Writing, Committing, Releasing, ReleasingNode, GivingUp, Ended}
+use Rattle.art_change.specs.ArtPlan.Changes.{put_at, target_at}
+use Rattle.art_change.specs.ArtPlan.Whole.{made_at, made_word}
+use Rattle.art_change.specs.ArtPlan.declared.changes.Change.{Change as ChangeOf}
+use Rattle.art_change.specs.ArtPlan.declared.changes.Put.{Put}
+use Rattle.art_change.specs.ArtPlan.declared.changes.Target.{Target}
+use Rattle.art_step.specs.Acting.{IsLook}
+use Rattle.art_step.specs.declared.actions.Action.{Action}
+use Rattle.art_step.specs.declared.actions.Action.TheVariants.{Begin, Read, ReadLeaf, Check, Settle, Upgrade, Claim, Write, WriteLeaf, Commit, Release}
+use Rattle.art_step.specs.declared.actions.Action.TheVariants.{ClearBit, GiveBack, Free, ReadEpoch, StorePin, RaiseEpoch, ReadPin}
 use Rattle.art_runs.proofs.Apply.{IsRelease, IsUpgrade, NeedsCurrent}
 use Rattle.art_step.specs.Events.{MakesEvent}
 use Rattle.art_step.specs.Shows.{Rest}

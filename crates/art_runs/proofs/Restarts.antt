@@ -2,44 +2,44 @@
 use Rattle.std.proofs.Common.{◌≡◌, ◌+◌, ◌≤◌, ℕ, List, None, refl, ap, ◌∙◌, arith}
 use Rattle.std.proofs.lemmas.Bool.{cond_both}
 use Rattle.std.specs.Prelude.{◌==◌}
-use Rattle.art_call.specs.ArtAttempt.Attempts as attempts
-use Rattle.art_call.specs.ArtAttempt.declared.attempts.Attempt.{Attempt}
-use Rattle.art_call.specs.ArtAttempt.declared.attempts.Stage.{Stage as AttemptStage}
-use Rattle.art_call.specs.ArtAttempt.declared.attempts.Stage.TheVariants as attempt
-use Rattle.art_call.specs.ArtAttempt.declared.attempts.Job.{Job}
-use Rattle.art_call.specs.ArtAttempt.declared.attempts.Part.{Part}
-use Rattle.art_call.specs.ArtAttempt.declared.attempts.Part.TheVariants as part
-use Rattle.art_call.specs.ArtFind.declared.findings.Position.{Position}
-use Rattle.art_call.specs.ArtAttempt.declared.attempts.Room.{Room}
-use Rattle.art_call.specs.Calls.{GoesOn, Wish, restarts_of}
-use Rattle.art_call.specs.declared.callers.Call.{Call}
-use Rattle.art_call.specs.declared.callers.Call.TheVariants as call
-use Rattle.art_call.specs.declared.callers.Caller.{Caller}
-use Rattle.art_call.proofs.ArtChange.Counted.{write_counted}
-use Rattle.art_call.proofs.ArtChange.Endings.{left_by}
-use Rattle.art_call.specs.ArtChange.Writes as writes
-use Rattle.art_call.specs.ArtChange.Writes.{IsExiting, gone_by}
-use Rattle.art_call.specs.ArtChange.declared.writes.Outcome.{Outcome as WriteOutcome}
-use Rattle.art_call.specs.ArtChange.declared.writes.Stage.{Stage}
-use Rattle.art_call.specs.ArtChange.declared.writes.Stage.TheVariants as stage
-use Rattle.art_call.specs.ArtChange.declared.writes.Write.{Write}
+use Rattle.art_change.specs.ArtAttempt.Attempts as attempts
+use Rattle.art_change.specs.ArtAttempt.declared.attempts.Attempt.{Attempt}
+use Rattle.art_change.specs.ArtAttempt.declared.attempts.Stage.{Stage as AttemptStage}
+use Rattle.art_change.specs.ArtAttempt.declared.attempts.Stage.TheVariants as attempt
+use Rattle.art_change.specs.ArtAttempt.declared.attempts.Job.{Job}
+use Rattle.art_change.specs.ArtAttempt.declared.attempts.Part.{Part}
+use Rattle.art_change.specs.ArtAttempt.declared.attempts.Part.TheVariants as part
+use Rattle.art_change.specs.ArtFind.declared.findings.Position.{Position}
+use Rattle.art_change.specs.ArtAttempt.declared.attempts.Room.{Room}
+use Rattle.art_change.specs.Calls.{GoesOn, Wish, restarts_of}
+use Rattle.art_change.specs.declared.callers.Call.{Call}
+use Rattle.art_change.specs.declared.callers.Call.TheVariants as call
+use Rattle.art_change.specs.declared.callers.Caller.{Caller}
+use Rattle.art_change.proofs.Counted.{write_counted}
+use Rattle.art_change.proofs.Endings.{left_by}
+use Rattle.art_change.specs.Writes as writes
+use Rattle.art_change.specs.Writes.{IsExiting, gone_by}
+use Rattle.art_change.specs.declared.writes.WriteOutcome.{WriteOutcome}
+use Rattle.art_change.specs.declared.writes.Stage.{Stage}
+use Rattle.art_change.specs.declared.writes.Stage.TheVariants as stage
+use Rattle.art_change.specs.declared.writes.Write.{Write}
 use Rattle.art_step.specs.Tokens.{links_of}
 use Rattle.art_cell.specs.declared.cells.Link.{Link}
 use Rattle.art_epoch.specs.Limbo.{places_of}
 use Rattle.art_epoch.specs.declared.limbo.Place.{Place}
-use Rattle.art_call.specs.ArtEpoch.Exit.{ExitFits}
-use Rattle.art_call.specs.ArtEpoch.declared.exit.Exit.{Exit}
-use Rattle.art_call.specs.ArtEpoch.declared.exit.Exit.TheVariants.{Labelling, Giving, Ended}
-use Rattle.art_call.specs.ArtEpoch.declared.stocks.Stock.{Stock}
+use Rattle.art_change.specs.ArtEpoch.Exit.{ExitFits}
+use Rattle.art_change.specs.ArtEpoch.declared.exit.Exit.{Exit}
+use Rattle.art_change.specs.ArtEpoch.declared.exit.Exit.TheVariants.{Labelling, Giving, Ended}
+use Rattle.art_change.specs.ArtEpoch.declared.stocks.Stock.{Stock}
 use Rattle.art_key.specs.declared.bounds.Bound.{Bound}
-use Rattle.art_call.specs.ArtLook.declared.path_buffers.PathBuffer.{PathBuffer}
-use Rattle.art_call.specs.ArtLook.Seeks as seeks
-use Rattle.art_call.specs.ArtLook.Walks as walks
-use Rattle.art_call.specs.ArtLook.declared.seeks.Seek.{Seek}
-use Rattle.art_call.specs.ArtLook.declared.seeks.SeekStage.{SeekStage}
-use Rattle.art_call.specs.ArtLook.declared.seeks.SeekStage.TheVariants as seek
-use Rattle.art_call.specs.ArtLook.declared.walks.Walk.{Walk}
-use Rattle.art_call.specs.ArtLook.declared.walks.Walk.TheVariants.{Key, Range}
+use Rattle.art_change.specs.ArtLook.declared.path_buffers.PathBuffer.{PathBuffer}
+use Rattle.art_change.specs.ArtLook.Seeks as seeks
+use Rattle.art_change.specs.ArtLook.Walks as walks
+use Rattle.art_change.specs.ArtLook.declared.seeks.Seek.{Seek}
+use Rattle.art_change.specs.ArtLook.declared.seeks.SeekStage.{SeekStage}
+use Rattle.art_change.specs.ArtLook.declared.seeks.SeekStage.TheVariants as seek
+use Rattle.art_change.specs.ArtLook.declared.walks.Walk.{Walk}
+use Rattle.art_change.specs.ArtLook.declared.walks.Walk.TheVariants.{Key, Range}
 use Rattle.art_runs.proofs.Calls.{seek_fits, write_fits}
 use Rattle.art_runs.specs.Solo.{RestartLaw}
 use Rattle.art_step.specs.Steps.Epoch as epoch

@@ -3,31 +3,31 @@ use Rattle.std.proofs.Common.{◌≡◌, ◌+◌, ℕ, Bool, true, false, List, 
 use Rattle.std.proofs.lemmas.Bool.{cond_both}
 use Rattle.std.proofs.lemmas.Option.{same_Some}
 use Rattle.std.specs.Prelude.{◌==◌}
-use Rattle.art_call.specs.AsAsked.{SeekMakes}
+use Rattle.art_change.specs.AsAsked.{SeekMakes}
 use Rattle.art_epoch.specs.Pins.{Pins}
-use Rattle.art_call.proofs.ArtFind.Stages.{still_reading}
-use Rattle.art_call.specs.ArtFind.Descents as descents
-use Rattle.art_call.specs.ArtFind.Descents.{IsReading}
-use Rattle.art_call.specs.ArtFind.Driven.{get_done}
+use Rattle.art_change.proofs.ArtFind.Stages.{still_reading}
+use Rattle.art_change.specs.ArtFind.Descents as descents
+use Rattle.art_change.specs.ArtFind.Descents.{IsReading}
+use Rattle.art_change.specs.ArtFind.Driven.{get_done}
 use Rattle.art_key.specs.declared.bounds.Bound.{Bound}
-use Rattle.art_call.proofs.ArtLook.Stages as look_stages
-use Rattle.art_call.specs.ArtLook.Looks as looks
-use Rattle.art_call.specs.ArtLook.declared.path_buffers.PathBuffer.{PathBuffer}
-use Rattle.art_call.specs.ArtLook.Seeks.{Fits, StageFits, asks_at}
-use Rattle.art_call.specs.ArtLook.Walks as walks
-use Rattle.art_call.specs.ArtLook.Walks.{deed_at, of_value}
-use Rattle.art_call.specs.ArtLook.declared.seeks.Seek.{Seek}
-use Rattle.art_call.specs.ArtLook.declared.seeks.SeekStage.{SeekStage}
-use Rattle.art_call.specs.ArtLook.declared.seeks.SeekStage.TheVariants as stage
-use Rattle.art_call.specs.ArtLook.declared.walks.Outcome.TheVariants.{Seen}
-use Rattle.art_call.specs.ArtLook.declared.walks.Walk.{Walk}
-use Rattle.art_call.specs.ArtLook.declared.walks.Walk.TheVariants.{Key, Range}
-use Rattle.art_call.proofs.ArtChange.FrameSteps.{IsFrame, pinning_frame}
-use Rattle.art_call.proofs.ArtLook.Parts.{walk_looks}
-use Rattle.art_machine.specs.Acting.{Answers, telling}
-use Rattle.art_machine.specs.declared.actions.Action.{Action}
-use Rattle.art_machine.specs.declared.actions.Action.TheVariants.{StorePin}
-use Rattle.art_machine.specs.declared.actions.Answer.{Answer}
+use Rattle.art_change.proofs.ArtLook.Stages as look_stages
+use Rattle.art_change.specs.ArtLook.Looks as looks
+use Rattle.art_change.specs.ArtLook.declared.path_buffers.PathBuffer.{PathBuffer}
+use Rattle.art_change.specs.ArtLook.Seeks.{Fits, StageFits, asks_at}
+use Rattle.art_change.specs.ArtLook.Walks as walks
+use Rattle.art_change.specs.ArtLook.Walks.{deed_at, of_value}
+use Rattle.art_change.specs.ArtLook.declared.seeks.Seek.{Seek}
+use Rattle.art_change.specs.ArtLook.declared.seeks.SeekStage.{SeekStage}
+use Rattle.art_change.specs.ArtLook.declared.seeks.SeekStage.TheVariants as stage
+use Rattle.art_change.specs.ArtLook.declared.walks.Outcome.TheVariants.{Seen}
+use Rattle.art_change.specs.ArtLook.declared.walks.Walk.{Walk}
+use Rattle.art_change.specs.ArtLook.declared.walks.Walk.TheVariants.{Key, Range}
+use Rattle.art_change.proofs.FrameSteps.{IsFrame, pinning_frame}
+use Rattle.art_change.proofs.ArtLook.Parts.{walk_looks}
+use Rattle.art_step.specs.Acting.{Answers, telling}
+use Rattle.art_step.specs.declared.actions.Action.{Action}
+use Rattle.art_step.specs.declared.actions.Action.TheVariants.{StorePin}
+use Rattle.art_step.specs.declared.actions.Answer.{Answer}
 use Rattle.art_runs.proofs.Calm.{IsCellFounded, IsMoment, calm_current, cell_calm, frame_calm}
 use Rattle.art_runs.proofs.Cells.{descent_founded, look_founded}
 use Rattle.art_runs.proofs.Told.{no_end}

@@ -3,66 +3,66 @@ use Rattle.std.proofs.Common.{◌≡◌, ◌⊎◌, ℕ, ◌+◌, ◌<◌, ◌�
 use Rattle.std.proofs.lemmas.Bool.{ne_eqb}
 use Rattle.std.specs.Option.{option_map}
 use Rattle.arrayvec.specs.ArrayVec.{ArrayVec}
-use Rattle.art_call.proofs.ArtAttempt.Free.{free_so}
-use Rattle.art_call.specs.ArtAttempt.Attempts as attempts
-use Rattle.art_call.specs.ArtAttempt.Cases.{made_by}
-use Rattle.art_call.specs.ArtAttempt.Trying.{StillTries}
-use Rattle.art_call.specs.ArtAttempt.declared.attempts.Attempt.{Attempt}
-use Rattle.art_call.specs.ArtAttempt.declared.attempts.Stage.{Stage as AttemptStage}
-use Rattle.art_call.specs.ArtAttempt.declared.attempts.Stage.TheVariants as attempt
-use Rattle.art_call.specs.ArtAttempt.declared.attempts.Room.{Room}
-use Rattle.art_call.specs.Calls.{GoesOn, Get, Insert, IsCalling, IsWriting, Look, Remove, Wish, told_by}
-use Rattle.art_call.specs.Outcomes.{of_write}
-use Rattle.art_call.specs.declared.callers.Call.{Call}
-use Rattle.art_call.specs.declared.callers.Call.TheVariants as call
-use Rattle.art_call.specs.declared.callers.Caller.{Caller}
-use Rattle.art_call.specs.declared.outcomes.Outcome.{Outcome}
-use Rattle.art_call.specs.declared.outcomes.Outcome.TheVariants as outcome
-use Rattle.art_call.proofs.ArtChange.Answered.{answered, left_opened, sees_all}
-use Rattle.art_call.specs.ArtChange.Writes as writes
-use Rattle.art_call.specs.ArtChange.Writes.{IsExiting, IsTrying, StageFits, gone_by}
-use Rattle.art_call.specs.ArtAttempt.declared.attempts.Job.{Job}
-use Rattle.art_call.specs.ArtAttempt.declared.attempts.Job.TheVariants as job
-use Rattle.art_call.specs.ArtChange.declared.writes.Outcome.{Outcome as WriteOutcome}
-use Rattle.art_call.specs.ArtChange.declared.writes.Outcome.TheVariants as write
-use Rattle.art_call.specs.ArtChange.declared.writes.Stage.{Stage}
-use Rattle.art_call.specs.ArtChange.declared.writes.Stage.TheVariants as stages
-use Rattle.art_call.specs.ArtChange.declared.writes.Write.{Write}
+use Rattle.art_change.proofs.ArtAttempt.Free.{free_so}
+use Rattle.art_change.specs.ArtAttempt.Attempts as attempts
+use Rattle.art_change.specs.ArtAttempt.Cases.{made_by}
+use Rattle.art_change.specs.ArtAttempt.Trying.{StillTries}
+use Rattle.art_change.specs.ArtAttempt.declared.attempts.Attempt.{Attempt}
+use Rattle.art_change.specs.ArtAttempt.declared.attempts.Stage.{Stage as AttemptStage}
+use Rattle.art_change.specs.ArtAttempt.declared.attempts.Stage.TheVariants as attempt
+use Rattle.art_change.specs.ArtAttempt.declared.attempts.Room.{Room}
+use Rattle.art_change.specs.Calls.{GoesOn, Get, Insert, IsCalling, IsWriting, Look, Remove, Wish, told_by}
+use Rattle.art_change.specs.Outcomes.{of_write}
+use Rattle.art_change.specs.declared.callers.Call.{Call}
+use Rattle.art_change.specs.declared.callers.Call.TheVariants as call
+use Rattle.art_change.specs.declared.callers.Caller.{Caller}
+use Rattle.art_change.specs.declared.outcomes.Outcome.{Outcome}
+use Rattle.art_change.specs.declared.outcomes.Outcome.TheVariants as outcome
+use Rattle.art_change.proofs.Answered.{answered, left_opened, sees_all}
+use Rattle.art_change.specs.Writes as writes
+use Rattle.art_change.specs.Writes.{IsExiting, IsTrying, StageFits, gone_by}
+use Rattle.art_change.specs.ArtAttempt.declared.attempts.Job.{Job}
+use Rattle.art_change.specs.ArtAttempt.declared.attempts.Job.TheVariants as job
+use Rattle.art_change.specs.declared.writes.WriteOutcome.{WriteOutcome}
+use Rattle.art_change.specs.declared.writes.WriteOutcome.TheVariants as write
+use Rattle.art_change.specs.declared.writes.Stage.{Stage}
+use Rattle.art_change.specs.declared.writes.Stage.TheVariants as stages
+use Rattle.art_change.specs.declared.writes.Write.{Write}
 use Rattle.art_epoch.proofs.Pinned.{pinning_same}
 use Rattle.art_epoch.specs.Limbo.{places_of}
 use Rattle.art_epoch.specs.Pins.{Pins}
 use Rattle.art_epoch.specs.declared.limbo.Place.{Place}
-use Rattle.art_call.proofs.ArtFind.Stages.{still_reading}
-use Rattle.art_call.specs.ArtFind.Descents as descents
-use Rattle.art_call.specs.ArtFind.Driven.{get_done}
-use Rattle.art_call.proofs.ArtEpoch.Opens.{enter_same}
-use Rattle.art_call.specs.ArtEpoch.Exit.{ExitFits}
-use Rattle.art_call.specs.ArtEpoch.declared.exit.Exit.{Exit}
-use Rattle.art_call.specs.ArtEpoch.declared.exit.Exit.TheVariants as exit
-use Rattle.art_call.specs.ArtEpoch.declared.stocks.Stock.{Stock}
+use Rattle.art_change.proofs.ArtFind.Stages.{still_reading}
+use Rattle.art_change.specs.ArtFind.Descents as descents
+use Rattle.art_change.specs.ArtFind.Driven.{get_done}
+use Rattle.art_change.proofs.ArtEpoch.Opens.{enter_same}
+use Rattle.art_change.specs.ArtEpoch.Exit.{ExitFits}
+use Rattle.art_change.specs.ArtEpoch.declared.exit.Exit.{Exit}
+use Rattle.art_change.specs.ArtEpoch.declared.exit.Exit.TheVariants as exit
+use Rattle.art_change.specs.ArtEpoch.declared.stocks.Stock.{Stock}
 use Rattle.art_key.specs.declared.bounds.Bound.{Bound}
-use Rattle.art_call.proofs.ArtLook.Stages.{still_reading as still_looking}
-use Rattle.art_call.specs.ArtLook.Looks as looks
-use Rattle.art_call.specs.ArtLook.Seen.{look_done}
-use Rattle.art_call.specs.ArtLook.declared.looks.Seen.{Seen as SeenOf}
-use Rattle.art_call.specs.ArtLook.declared.path_buffers.PathBuffer.{PathBuffer}
-use Rattle.art_call.specs.ArtMake.Apply.{Fits as MakeFits, ended_at as make_ended}
-use Rattle.art_call.specs.ArtMake.declared.apply.Apply.{Apply}
-use Rattle.art_call.specs.ArtMake.declared.apply.Apply.TheVariants.{Upgrading, Claiming, Filling, Writing, Committing, Releasing, ReleasingNode, GivingUp, Ended}
-use Rattle.art_call.specs.ArtPlan.declared.changes.Change.{Change}
-use Rattle.art_call.proofs.ArtLook.Closes.{closed_sought, over_told}
-use Rattle.art_call.proofs.ArtLook.SeekEnds.{key_not_seen, range_not_absent, range_not_found}
-use Rattle.art_call.specs.ArtLook.Seeks as seeks
-use Rattle.art_call.specs.ArtLook.Walks as walks
-use Rattle.art_call.specs.ArtLook.Walks.{IsEnd, aim_of, of_value, told_of}
-use Rattle.art_call.specs.ArtLook.declared.seeks.Seek.{Seek}
-use Rattle.art_call.specs.ArtLook.declared.seeks.SeekStage.{SeekStage}
-use Rattle.art_call.specs.ArtLook.declared.seeks.SeekStage.TheVariants as seek
-use Rattle.art_call.specs.ArtLook.declared.walks.Aim.TheVariants as aim
-use Rattle.art_call.specs.ArtLook.declared.walks.Outcome.{Outcome as SeekOutcome}
-use Rattle.art_call.specs.ArtLook.declared.walks.Outcome.TheVariants.{Found, Absent, Seen, Busy}
-use Rattle.art_call.specs.ArtLook.declared.walks.Walk.{Walk}
-use Rattle.art_call.specs.ArtLook.declared.walks.Walk.TheVariants.{Key, Range}
+use Rattle.art_change.proofs.ArtLook.Stages.{still_reading as still_looking}
+use Rattle.art_change.specs.ArtLook.Looks as looks
+use Rattle.art_change.specs.ArtLook.Seen.{look_done}
+use Rattle.art_change.specs.ArtLook.declared.looks.Seen.{Seen as SeenOf}
+use Rattle.art_change.specs.ArtLook.declared.path_buffers.PathBuffer.{PathBuffer}
+use Rattle.art_change.specs.ArtPlan.Apply.{Fits as MakeFits, ended_at as make_ended}
+use Rattle.art_change.specs.ArtPlan.declared.apply.Apply.{Apply}
+use Rattle.art_change.specs.ArtPlan.declared.apply.Apply.TheVariants.{Upgrading, Claiming, Filling, Writing, Committing, Releasing, ReleasingNode, GivingUp, Ended}
+use Rattle.art_change.specs.ArtPlan.declared.changes.Change.{Change}
+use Rattle.art_change.proofs.ArtLook.Closes.{closed_sought, over_told}
+use Rattle.art_change.proofs.ArtLook.SeekEnds.{key_not_seen, range_not_absent, range_not_found}
+use Rattle.art_change.specs.ArtLook.Seeks as seeks
+use Rattle.art_change.specs.ArtLook.Walks as walks
+use Rattle.art_change.specs.ArtLook.Walks.{IsEnd, aim_of, of_value, told_of}
+use Rattle.art_change.specs.ArtLook.declared.seeks.Seek.{Seek}
+use Rattle.art_change.specs.ArtLook.declared.seeks.SeekStage.{SeekStage}
+use Rattle.art_change.specs.ArtLook.declared.seeks.SeekStage.TheVariants as seek
+use Rattle.art_change.specs.ArtLook.declared.walks.Aim.TheVariants as aim
+use Rattle.art_change.specs.ArtLook.declared.walks.Outcome.{Outcome as SeekOutcome}
+use Rattle.art_change.specs.ArtLook.declared.walks.Outcome.TheVariants.{Found, Absent, Seen, Busy}
+use Rattle.art_change.specs.ArtLook.declared.walks.Walk.{Walk}
+use Rattle.art_change.specs.ArtLook.declared.walks.Walk.TheVariants.{Key, Range}
 use Rattle.art_step.specs.Events.{MakesEvent, SeesEvent}
 use Rattle.art_step.specs.Shows.{OnlyReads, Rest}
 use Rattle.art_step.specs.Steps.Epoch as epoch

@@ -2,45 +2,45 @@
 use Rattle.std.proofs.Common.{◌≡◌, ◌<◌, ◌≤◌, ℕ, Bool, true, false, List, [], length, Option, Some, None, IfSome, refl, sym, ap, ◌∙◌, subst, arith, ⊎_elim}
 use Rattle.std.proofs.lemmas.Option.{same_Some}
 use Rattle.std.specs.Option.{option_and_then, option_map}
-use Rattle.art_call.proofs.ArtAttempt.Free.{free_so}
-use Rattle.art_call.proofs.ArtAttempt.Finds.{finding_allowed}
-use Rattle.art_call.proofs.ArtAttempt.Given.{ask_looks}
-use Rattle.art_call.proofs.ArtAttempt.Asked.{naming_asks_look, reads_look, validate_asks_look}
-use Rattle.art_call.specs.ArtAttempt.Asking.{IsAllowed}
-use Rattle.art_call.specs.ArtAttempt.Attempts as attempts
-use Rattle.art_call.specs.ArtAttempt.Cases.{cells_of, demand_of}
-use Rattle.art_call.specs.ArtAttempt.declared.attempts.Job.{Job}
-use Rattle.art_call.specs.ArtAttempt.Trying.{StillTries}
-use Rattle.art_call.specs.ArtAttempt.declared.attempts.Attempt.{Attempt}
-use Rattle.art_call.specs.ArtAttempt.declared.attempts.Stage.{Stage as AttemptStage}
-use Rattle.art_call.specs.ArtAttempt.declared.attempts.Stage.TheVariants as attempt
-use Rattle.art_call.specs.ArtAttempt.declared.attempts.Part.{Part}
-use Rattle.art_call.specs.ArtAttempt.declared.attempts.Part.TheVariants as part
-use Rattle.art_call.specs.ArtAttempt.declared.attempts.Room.{Room}
+use Rattle.art_change.proofs.ArtAttempt.Free.{free_so}
+use Rattle.art_change.proofs.ArtAttempt.Finds.{finding_allowed}
+use Rattle.art_change.proofs.ArtAttempt.Given.{ask_looks}
+use Rattle.art_change.proofs.ArtAttempt.Asked.{naming_asks_look, reads_look, validate_asks_look}
+use Rattle.art_change.specs.ArtAttempt.Asking.{IsAllowed}
+use Rattle.art_change.specs.ArtAttempt.Attempts as attempts
+use Rattle.art_change.specs.ArtAttempt.Cases.{cells_of, demand_of}
+use Rattle.art_change.specs.ArtAttempt.declared.attempts.Job.{Job}
+use Rattle.art_change.specs.ArtAttempt.Trying.{StillTries}
+use Rattle.art_change.specs.ArtAttempt.declared.attempts.Attempt.{Attempt}
+use Rattle.art_change.specs.ArtAttempt.declared.attempts.Stage.{Stage as AttemptStage}
+use Rattle.art_change.specs.ArtAttempt.declared.attempts.Stage.TheVariants as attempt
+use Rattle.art_change.specs.ArtAttempt.declared.attempts.Part.{Part}
+use Rattle.art_change.specs.ArtAttempt.declared.attempts.Part.TheVariants as part
+use Rattle.art_change.specs.ArtAttempt.declared.attempts.Room.{Room}
 use Rattle.art_cell.specs.declared.cells.Cell.{Cell as CellOf}
 use Rattle.art_cell.specs.declared.cells.Cell.TheVariants as cell
 use Rattle.art_cell.specs.declared.cells.Node.{Node}
-use Rattle.art_call.proofs.ArtFind.Allowed.{none_held}
-use Rattle.art_call.specs.ArtFind.Descents as descents
-use Rattle.art_call.specs.ArtAttempt.Reserve as reserve
-use Rattle.art_call.specs.ArtAttempt.declared.reserve.Reserve.{Reserve}
-use Rattle.art_call.specs.ArtAttempt.declared.reserve.Demand.{Demand}
-use Rattle.art_call.proofs.ArtMake.Told.{map_some}
-use Rattle.art_call.specs.ArtMake.Apply as apply
-use Rattle.art_call.specs.ArtMake.Apply.{put_into, releases, so_many}
-use Rattle.art_call.specs.ArtMake.declared.apply.Apply.{Apply}
-use Rattle.art_call.specs.ArtMake.declared.apply.Apply.TheVariants.{Upgrading, Claiming, Filling, Writing, Committing, Releasing, ReleasingNode, GivingUp, Ended}
-use Rattle.art_call.specs.ArtFind.Findings.{position_at}
-use Rattle.art_call.specs.ArtFind.declared.findings.Position.{Position}
-use Rattle.art_call.specs.ArtPlan.Changes.{IsTarget, put_at, target_at}
-use Rattle.art_call.specs.ArtPlan.Whole.{HoldsWhole, IsNewBy, IsWhole, made_at, made_word}
-use Rattle.art_call.specs.ArtPlan.declared.changes.Change.{Change as ChangeOf}
-use Rattle.art_call.specs.ArtPlan.declared.changes.Put.{Put}
-use Rattle.art_call.specs.ArtPlan.declared.changes.Target.{Target}
-use Rattle.art_machine.specs.Acting.{IsLook}
-use Rattle.art_machine.specs.declared.actions.Action.{Action}
-use Rattle.art_machine.specs.declared.actions.Action.TheVariants.{Begin, Read, ReadLeaf, Check, Settle, Upgrade, Claim, Write, WriteLeaf, Commit, Release}
-use Rattle.art_machine.specs.declared.actions.Action.TheVariants.{ClearBit, GiveBack, Free, ReadEpoch, StorePin, RaiseEpoch, ReadPin}
+use Rattle.art_change.proofs.ArtFind.Allowed.{none_held}
+use Rattle.art_change.specs.ArtFind.Descents as descents
+use Rattle.art_change.specs.ArtAttempt.Reserve as reserve
+use Rattle.art_change.specs.ArtAttempt.declared.reserve.Reserve.{Reserve}
+use Rattle.art_change.specs.ArtAttempt.declared.reserve.Demand.{Demand}
+use Rattle.art_change.proofs.ArtPlan.Told.{map_some}
+use Rattle.art_change.specs.ArtPlan.Apply as apply
+use Rattle.art_change.specs.ArtPlan.Apply.{put_into, releases, so_many}
+use Rattle.art_change.specs.ArtPlan.declared.apply.Apply.{Apply}
+use Rattle.art_change.specs.ArtPlan.declared.apply.Apply.TheVariants.{Upgrading, Claiming, Filling, Writing, Committing, Releasing, ReleasingNode, GivingUp, Ended}
+use Rattle.art_change.specs.ArtFind.Findings.{position_at}
+use Rattle.art_change.specs.ArtFind.declared.findings.Position.{Position}
+use Rattle.art_change.specs.ArtPlan.Changes.{IsTarget, put_at, target_at}
+use Rattle.art_change.specs.ArtPlan.Whole.{HoldsWhole, IsNewBy, IsWhole, made_at, made_word}
+use Rattle.art_change.specs.ArtPlan.declared.changes.Change.{Change as ChangeOf}
+use Rattle.art_change.specs.ArtPlan.declared.changes.Put.{Put}
+use Rattle.art_change.specs.ArtPlan.declared.changes.Target.{Target}
+use Rattle.art_step.specs.Acting.{IsLook}
+use Rattle.art_step.specs.declared.actions.Action.{Action}
+use Rattle.art_step.specs.declared.actions.Action.TheVariants.{Begin, Read, ReadLeaf, Check, Settle, Upgrade, Claim, Write, WriteLeaf, Commit, Release}
+use Rattle.art_step.specs.declared.actions.Action.TheVariants.{ClearBit, GiveBack, Free, ReadEpoch, StorePin, RaiseEpoch, ReadPin}
 use Rattle.art_runs.proofs.Calm.{IsCellFounded, IsFounded, IsLedTo}
 use Rattle.art_runs.proofs.Cells.{descent_founded, naming_begins, reads_only, validate_begins_none}
 use Rattle.art_runs.proofs.Numbers.{supply_founded}

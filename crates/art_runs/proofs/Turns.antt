@@ -4,7 +4,7 @@ use Rattle.std.proofs.lemmas.Bool.{cases_eq}
 use Rattle.std.proofs.lemmas.Option.{same_Some, slice_get_within}
 use Rattle.std.specs.FinMap.{empty}
 use Rattle.std.specs.List.{slice_get}
-use Rattle.art_call.specs.Calls.{IsCalling, Wish}
+use Rattle.art_change.specs.Calls.{IsCalling, Wish}
 use Rattle.art_runs.proofs.Growing.{Grows, StepMade, grows_most, grows_none, grows_then, made_length, none_then, same_none, step_grows, step_made}
 use Rattle.art_runs.proofs.Told.{HasTold, calling_tells}
 use Rattle.art_runs.specs.Ops.{EndsAsCalled, Goes, IsRunOfOps, IsTurnOf, IsUnderWay, caller_in, has_ended, last_in, outcome_in}

@@ -1,24 +1,24 @@
 -- A write that alone makes steps: no step of it fails, and its stamps stay current as long as they may be looked at.
 use Rattle.std.proofs.Common.{◌≡◌, ◌+◌, ◌<◌, ◌≤◌, ℕ, true, List, length, Option, Some, None, sym, ap, ◌∙◌, arith, ⊎_elim}
-use Rattle.art_call.specs.ArtAttempt.declared.attempts.Room.{Room}
-use Rattle.art_call.specs.AsAsked.{WriteMakes}
-use Rattle.art_call.specs.ArtAttempt.Asking.{Answers, IsAllowed, given}
-use Rattle.art_call.proofs.ArtChange.FrameSteps.{IsFrame, exit_frame, enter_frame}
-use Rattle.art_call.specs.ArtChange.Writes.{Fits, StageFits, asks_at, brings_at, left_at, steps_left}
-use Rattle.art_call.specs.ArtAttempt.Attempts as attempts
-use Rattle.art_call.specs.ArtAttempt.declared.attempts.Attempt.{Attempt}
-use Rattle.art_call.specs.ArtChange.declared.writes.Stage.{Stage}
-use Rattle.art_call.specs.ArtChange.declared.writes.Stage.TheVariants as stage
-use Rattle.art_call.specs.ArtChange.declared.writes.Write.{Write}
+use Rattle.art_change.specs.ArtAttempt.declared.attempts.Room.{Room}
+use Rattle.art_change.specs.AsAsked.{WriteMakes}
+use Rattle.art_change.specs.ArtAttempt.Asking.{Answers, IsAllowed, given}
+use Rattle.art_change.proofs.FrameSteps.{IsFrame, exit_frame, enter_frame}
+use Rattle.art_change.specs.Writes.{Fits, StageFits, asks_at, brings_at, left_at, steps_left}
+use Rattle.art_change.specs.ArtAttempt.Attempts as attempts
+use Rattle.art_change.specs.ArtAttempt.declared.attempts.Attempt.{Attempt}
+use Rattle.art_change.specs.declared.writes.Stage.{Stage}
+use Rattle.art_change.specs.declared.writes.Stage.TheVariants as stage
+use Rattle.art_change.specs.declared.writes.Write.{Write}
 use Rattle.art_epoch.proofs.Stocked.{at_most_five}
 use Rattle.art_epoch.specs.declared.limbo.Place.{Place}
-use Rattle.art_call.specs.ArtEpoch.Exit as exits
-use Rattle.art_call.specs.ArtEpoch.declared.exit.Exit.{Exit}
-use Rattle.art_call.specs.ArtEpoch.declared.exit.Exit.TheVariants.{Labelling, Giving, Ended}
-use Rattle.art_call.specs.ArtEpoch.declared.stocks.Stock.{Stock}
-use Rattle.art_machine.specs.Acting as acting
-use Rattle.art_machine.specs.declared.actions.Action.{Action}
-use Rattle.art_machine.specs.declared.actions.Answer.{Answer}
+use Rattle.art_change.specs.ArtEpoch.Exit as exits
+use Rattle.art_change.specs.ArtEpoch.declared.exit.Exit.{Exit}
+use Rattle.art_change.specs.ArtEpoch.declared.exit.Exit.TheVariants.{Labelling, Giving, Ended}
+use Rattle.art_change.specs.ArtEpoch.declared.stocks.Stock.{Stock}
+use Rattle.art_step.specs.Acting as acting
+use Rattle.art_step.specs.declared.actions.Action.{Action}
+use Rattle.art_step.specs.declared.actions.Answer.{Answer}
 use Rattle.art_runs.proofs.Calm.{IsMoment, calm_current, frame_calm}
 use Rattle.art_runs.proofs.Apply.{step_calm, step_keeps}
 use Rattle.art_runs.proofs.Phases.{attempt_look, attempt_release}

@@ -1,8 +1,8 @@
 -- Turns of one op alone, while every other pass is idle.
 use Rattle.std.specs.List.{slice_get}
 use Rattle.std.specs.Prelude.{◌≡◌, ◌⊎◌, ℕ, true, List, Some, None}
-use Rattle.art_call.specs.Calls.{restarts_in}
-use Rattle.art_call.specs.declared.outcomes.Outcome.{Outcome}
+use Rattle.art_change.specs.Calls.{restarts_in}
+use Rattle.art_change.specs.declared.outcomes.Outcome.{Outcome}
 use Rattle.art_runs.specs.Ops.{caller_in, has_ended, outcome_in}
 use Rattle.art_runs.specs.declared.ops.Op.{Op}
 use Rattle.art_runs.specs.Solo.{EndsAlone}

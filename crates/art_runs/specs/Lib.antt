@@ -1,5 +1,5 @@
 -- the crates below, for those above to name
-pub use Rattle.art_call.specs as ArtCall
+pub use Rattle.art_change.specs as ArtChange
 pub mod Alone
 pub mod Ops
 pub mod OthersIdle

@@ -1,13 +1,13 @@
 -- What contracts see of an op: the call of a pass that takes turns.
 use Rattle.std.specs.Option.{is_some}
 use Rattle.std.specs.Prelude.{◌≡◌, ◌≢◌, ◌==◌, ℕ, Bool, List, Option, Some, None, ⊤, count_by}
-use Rattle.art_call.specs.AsAsked.{GoesAsAsked}
-use Rattle.art_call.specs.Calls.{FindsOverlap, HasCalled, IsCalling, StaysApart, Wish, outcome_at, restarts_in}
-use Rattle.art_call.specs.Made.{MakesStep}
-use Rattle.art_call.specs.declared.callers.Caller.{Caller}
-use Rattle.art_call.specs.declared.driver.Made.{Made}
-use Rattle.art_call.specs.declared.outcomes.Outcome.{Outcome}
-use Rattle.art_call.specs.declared.outcomes.Outcome.TheVariants.{Overlaps}
+use Rattle.art_change.specs.AsAsked.{GoesAsAsked}
+use Rattle.art_change.specs.Calls.{FindsOverlap, HasCalled, IsCalling, StaysApart, Wish, outcome_at, restarts_in}
+use Rattle.art_change.specs.Made.{MakesStep}
+use Rattle.art_change.specs.declared.callers.Caller.{Caller}
+use Rattle.art_change.specs.declared.driver.Made.{Made}
+use Rattle.art_change.specs.declared.outcomes.Outcome.{Outcome}
+use Rattle.art_change.specs.declared.outcomes.Outcome.TheVariants.{Overlaps}
 use Rattle.art_runs.specs.declared.ops.Op.{Op}
 use Rattle.art_step.specs.WordRows.{view_at}
 use Rattle.art_step.specs.declared.views.Sizes.{Sizes}

@@ -1,8 +1,8 @@
 -- What a list of turns comes to: one history, and the one event of each op.
 use Rattle.std.specs.List.{slice_get}
 use Rattle.std.specs.Prelude.{◌≡◌, ◌⊎◌, ◌++◌, ◌+◌, ◌<◌, ◌≤◌, ◌∷◌, ℕ, List, length, true, Option, Some, None}
-use Rattle.art_call.specs.Calls.{HasCalled, IsCalling, StaysApart, Wish, restarts_in, told_by}
-use Rattle.art_call.specs.declared.outcomes.Outcome.{Outcome}
+use Rattle.art_change.specs.Calls.{HasCalled, IsCalling, StaysApart, Wish, restarts_in, told_by}
+use Rattle.art_change.specs.declared.outcomes.Outcome.{Outcome}
 use Rattle.art_key.specs.declared.columns.Column.{Column}
 use Rattle.art_runs.specs.Ops.{IsApart, IsRunOfOps, IsTurnOf, caller_in, has_ended, outcome_in, turns_of}
 use Rattle.art_runs.specs.TypedOps.{AreTyped}

@@ -1,16 +1,16 @@
 -- A call that alone makes steps, while every other pass is idle: no step of it fails.
 use Rattle.std.specs.Prelude.{◌≡◌, ◌≢◌, ◌<◌, ℕ, Some}
-use Rattle.art_call.specs.ArtAttempt.Trying.{IsLimited}
-use Rattle.art_call.specs.AsAsked.{GoesAsAsked}
-use Rattle.art_call.specs.Calls.{HasCalled, IsCalling, Wish, restarts_in}
-use Rattle.art_call.specs.declared.callers.Call.{Call}
-use Rattle.art_call.specs.declared.callers.Call.TheVariants as call
-use Rattle.art_call.specs.declared.callers.Caller.{Caller}
-use Rattle.art_call.specs.declared.outcomes.Outcome.{Outcome}
-use Rattle.art_call.specs.declared.outcomes.Outcome.TheVariants as outcome
-use Rattle.art_call.specs.ArtChange.Writes as writes
+use Rattle.art_change.specs.ArtAttempt.Trying.{IsLimited}
+use Rattle.art_change.specs.AsAsked.{GoesAsAsked}
+use Rattle.art_change.specs.Calls.{HasCalled, IsCalling, Wish, restarts_in}
+use Rattle.art_change.specs.declared.callers.Call.{Call}
+use Rattle.art_change.specs.declared.callers.Call.TheVariants as call
+use Rattle.art_change.specs.declared.callers.Caller.{Caller}
+use Rattle.art_change.specs.declared.outcomes.Outcome.{Outcome}
+use Rattle.art_change.specs.declared.outcomes.Outcome.TheVariants as outcome
+use Rattle.art_change.specs.Writes as writes
 use Rattle.art_epoch.specs.Limbo.{places_of}
-use Rattle.art_call.specs.ArtEpoch.declared.enter.Blocker.{Blocker}
+use Rattle.art_change.specs.ArtEpoch.declared.enter.Blocker.{Blocker}
 use Rattle.art_runs.specs.OthersIdle.{AreCurrent, HasFound, IsAlone}
 use Rattle.art_step.specs.Sound.{IsSound}
 use Rattle.art_step.specs.Steps.{OneStep}

@@ -1,7 +1,7 @@
 -- Ops and passes of which all keys spell tuples.
 use Rattle.std.specs.List.{slice_get}
 use Rattle.std.specs.Prelude.{◌≡◌, ◌<◌, ℕ, List, length, Some}
-use Rattle.art_call.specs.Calls.{IsAdmitted, IsCalling, Wish}
+use Rattle.art_change.specs.Calls.{IsAdmitted, IsCalling, Wish}
 use Rattle.art_key.specs.Spelling.{IsKeyOf}
 use Rattle.art_key.specs.declared.columns.Column.{Column}
 use Rattle.art_runs.specs.Ops.{caller_in}

@@ -36,7 +36,7 @@ mod ops;
 mod runs;
 mod solo;
 
-pub use art_call;
+pub use art_change;
 pub use ops::Op;
 pub use runs::run;
 pub use solo::calls_alone_do_not_fail;

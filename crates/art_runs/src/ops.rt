@@ -1,15 +1,15 @@
 //! A call of a pass, as one that takes turns.
 ghost use Rattle.std.specs.Prelude.{◌≡◌, ℕ, IfSome, true};
-ghost use Rattle.art_call.specs.Calls.{HasCalled, IsCaller, IsCalling, StaysApart, Wish, restarts_in};
-ghost use Rattle.art_call.specs.Calls.{Get as get_wish, Insert as insert_wish, Look as look_wish, Remove as remove_wish};
+ghost use Rattle.art_change.specs.Calls.{HasCalled, IsCaller, IsCalling, StaysApart, Wish, restarts_in};
+ghost use Rattle.art_change.specs.Calls.{Get as get_wish, Insert as insert_wish, Look as look_wish, Remove as remove_wish};
 ghost use Rattle.art_key.specs.Bounds.{is_before};
-ghost use Rattle.art_call.specs.ArtLook.Seen.{bound_at};
+ghost use Rattle.art_change.specs.ArtLook.Seen.{bound_at};
 ghost use Rattle.art_runs.specs.Ops.{caller_in, last_in, outcome_in};
 ghost use Rattle.art_step.specs.declared.views.Sizes.{Sizes as SizesOf};
 ghost use Rattle.art_step.specs.declared.views.View.{View};
 ghost use Rattle.art_tree.specs.declared.bounds.Bound.TheVariants.{To as to_text};
 
-use art_call::{Caller, Made, Outcome};
+use art_change::{Caller, Made, Outcome};
 use art_key::{Bound, Key};
 use art_world::{Actor, Stepper};
 

@@ -1,7 +1,7 @@
 //! A list of turns over one world.
 ghost use Rattle.std.specs.Prelude.{◌≡◌, ◌<◌, ◌≤◌, ℕ, List, length, Some};
 ghost use Rattle.std.specs.List.{slice_get};
-ghost use Rattle.art_call.specs.Calls.{IsCalling, Wish};
+ghost use Rattle.art_change.specs.Calls.{IsCalling, Wish};
 ghost use Rattle.art_key.specs.declared.columns.Column.{Column};
 ghost use Rattle.art_runs.specs.Alone.{AreTurnsOf, GoesAlone};
 ghost use Rattle.art_runs.specs.Ops.{IsRunOfOps, IsUnderWay, caller_in};

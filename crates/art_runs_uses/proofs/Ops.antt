@@ -3,8 +3,8 @@ use Rattle.std.proofs.Common.{◌≡◌, ◌⊎◌, ◌∙◌, ◌+◌, ◌<◌,
 use Rattle.std.proofs.lemmas.List.Edits.{length-insert, length-remove}
 use Rattle.std.proofs.lemmas.Option.{same_Some, slice_get_within}
 use Rattle.std.specs.List.{insert, remove, slice_get}
-use Rattle.art_runs.specs.ArtCall.Calls.{IsCaller}
-use Rattle.art_runs.specs.ArtCall.declared.callers.Caller.{Caller}
+use Rattle.art_runs.specs.ArtChange.Calls.{IsCaller}
+use Rattle.art_runs.specs.ArtChange.declared.callers.Caller.{Caller}
 use Rattle.art_change.proofs.Newcomers.{newcomer_at, newcomer_fresh}
 use Rattle.art_change.specs.Writes.{IsFresh}
 use Rattle.art_runs.specs.Ops.{IsUnderWay}

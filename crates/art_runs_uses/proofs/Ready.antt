@@ -1,8 +1,8 @@
 -- The first pass of a world may call: once that just opened, and after each call.
 use Rattle.std.proofs.Common.{◌≡◌, ◌∙◌, ◌<◌, ℕ, zero, suc, List, length, sym, ap, subst, arith}
 use Rattle.art_change.proofs.Newcomers.{newcomer_at, newcomer_fresh}
-use Rattle.art_runs.specs.ArtCall.Calls.{IsCaller, IsFresh}
-use Rattle.art_runs.specs.ArtCall.declared.callers.Caller.{Caller}
+use Rattle.art_runs.specs.ArtChange.Calls.{IsCaller, IsFresh}
+use Rattle.art_runs.specs.ArtChange.declared.callers.Caller.{Caller}
 use Rattle.art_runs_uses.specs.Writes.{WritesFirst}
 use Rattle.art_step.specs.WordRows.{newcomers, view_at}
 use Rattle.art_step.specs.declared.views.Sizes.{Sizes}

@@ -1,8 +1,8 @@
 -- Ops of the passes of a world.
 use Rattle.std.specs.List.{slice_get}
 use Rattle.std.specs.Prelude.{◌≡◌, ◌≤◌, ℕ, List, length, Some}
-use Rattle.art_runs.specs.ArtCall.Calls.{IsCaller}
-use Rattle.art_runs.specs.ArtCall.declared.callers.Caller.{Caller}
+use Rattle.art_runs.specs.ArtChange.Calls.{IsCaller}
+use Rattle.art_runs.specs.ArtChange.declared.callers.Caller.{Caller}
 use Rattle.art_runs.specs.Ops.{IsUnderWay}
 use Rattle.art_runs.specs.declared.ops.Op.{Op}
 use Rattle.art_step.specs.WordRows.{view_at}

@@ -1,7 +1,7 @@
 -- The first pass of a world writes, and looks up.
 use Rattle.std.specs.Prelude.{◌<◌, length}
-use Rattle.art_runs.specs.ArtCall.Calls.{IsCaller}
-use Rattle.art_runs.specs.ArtCall.declared.callers.Caller.{Caller}
+use Rattle.art_runs.specs.ArtChange.Calls.{IsCaller}
+use Rattle.art_runs.specs.ArtChange.declared.callers.Caller.{Caller}
 use Rattle.art_step.specs.WordRows.{view_at}
 use Rattle.art_world.specs.Contents.{Contents}
 

@@ -1,6 +1,6 @@
 //! A world of four passes, each with an op.
 ghost use Rattle.std.specs.Prelude.{◌≡◌, ◌<◌, ◌≤◌, IfErr, IfOk, length};
-ghost use Rattle.art_runs.specs.ArtCall.Calls.{IsCaller};
+ghost use Rattle.art_runs.specs.ArtChange.Calls.{IsCaller};
 ghost use Rattle.art_runs.specs.Ops.{IsUnderWay};
 ghost use Rattle.art_runs_uses.specs.Benches.{IsBench, IsBegun};
 ghost use Rattle.art_step.specs.Views.{last_counter};
@@ -10,7 +10,7 @@ ghost use Rattle.art_step.specs.declared.views.View.{View};
 use crate::events::Notes;
 use crate::wishes::{Wish, key_of};
 use art_key::{Bound, Schema};
-use art_runs::art_call::Caller;
+use art_runs::art_change::Caller;
 use art_runs::{Op, run};
 use art_step::Sizes;
 use art_world::World;

@@ -3,7 +3,7 @@ use art_cell::{Cell, Link, Node, Pool};
 use art_epoch::Limbo;
 use art_key::{Schema, decode};
 use art_model::{Command, Reply, SortedRows, Tuple};
-use art_runs::art_call::Caller;
+use art_runs::art_change::Caller;
 use art_step::pool_of_layout;
 use art_world::World;
 use std::alloc::Global;

@@ -3,10 +3,10 @@ ghost use Rattle.std.specs.Prelude.{◌<◌, ◌≤◌};
 ghost use Rattle.art_runs_uses.specs.Writes.{WritesFirst};
 ghost use Rattle.art_step.specs.Views.{last_counter};
 
-use art_change::Outcome;
+use art_change::WriteOutcome;
 use art_key::Key;
 use art_look::Outcome as Got;
-use art_runs::art_call::Caller;
+use art_runs::art_change::Caller;
 use art_step::Sizes;
 use art_world::World;
 use std::alloc::Global;
@@ -35,7 +35,7 @@ pub(crate) fn opened(rt: &impl Abort, alloc: Global, sizes: &Sizes, counter_star
 }
 
 /// How an insert of the row ends.
-fn puts(client: &mut Client, key: &Key, value: u64) -> Outcome
+fn puts(client: &mut Client, key: &Key, value: u64) -> WriteOutcome
     requires { WritesFirst client.old.world client.old.caller }
     ensures { WritesFirst client.new.world client.new.caller }
 {
@@ -44,7 +44,7 @@ fn puts(client: &mut Client, key: &Key, value: u64) -> Outcome
 }
 
 /// How a removal of the key ends.
-fn takes(client: &mut Client, key: &Key) -> Outcome
+fn takes(client: &mut Client, key: &Key) -> WriteOutcome
     requires { WritesFirst client.old.world client.old.caller }
     ensures { WritesFirst client.new.world client.new.caller }
 {
@@ -67,7 +67,7 @@ pub(crate) fn check_put(
     client: &mut Client,
     key: &Key,
     value: u64,
-    wanted: Outcome,
+    wanted: WriteOutcome,
 )
     requires { WritesFirst client.old.world client.old.caller }
     ensures { WritesFirst client.new.world client.new.caller }
@@ -76,7 +76,7 @@ pub(crate) fn check_put(
 }
 
 /// A removal of the key ends so.
-pub(crate) fn check_take(rt: &impl Abort, client: &mut Client, key: &Key, wanted: Outcome)
+pub(crate) fn check_take(rt: &impl Abort, client: &mut Client, key: &Key, wanted: WriteOutcome)
     requires { WritesFirst client.old.world client.old.caller }
     ensures { WritesFirst client.new.world client.new.caller }
 {

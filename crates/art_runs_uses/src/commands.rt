@@ -3,7 +3,7 @@ ghost use Rattle.art_runs_uses.specs.Writes.{WritesFirst};
 
 use crate::cells::account_with_rows;
 use crate::clients::{Client, check_find, check_put, check_take, opened};
-use art_change::Outcome;
+use art_change::WriteOutcome;
 use art_key::{Schema, encode};
 use art_look::Outcome as Got;
 use art_model::{Command, Reply, SortedRows, Tuple, Value};
@@ -34,12 +34,12 @@ fn draw_tuple(rt: &impl Abort, numbers: &mut Pcg32, bounds: &[u32]) -> Tuple {
 }
 
 /// How an insert or a removal ends whose map answers so, where leaves are left.
-fn outcome_of(reply: &Reply) -> Option<Outcome> {
+fn outcome_of(reply: &Reply) -> Option<WriteOutcome> {
     match *reply {
-        Reply::Inserted => Some(Outcome::New),
-        Reply::Present(value) => Some(Outcome::Present(value)),
-        Reply::Removed(value) => Some(Outcome::Gone(value)),
-        Reply::Absent => Some(Outcome::Absent),
+        Reply::Inserted => Some(WriteOutcome::New),
+        Reply::Present(value) => Some(WriteOutcome::Present(value)),
+        Reply::Removed(value) => Some(WriteOutcome::Gone(value)),
+        Reply::Absent => Some(WriteOutcome::Absent),
         _ => None,
     }
 }
@@ -78,7 +78,7 @@ fn reply(rt: &impl Abort, rows: &mut SortedRows, command: &Command) -> Reply {
 }
 
 /// How an insert or a removal ends, as the map has it.
-fn wanted_outcome(rt: &impl Abort, rows: &mut SortedRows, command: &Command) -> Outcome {
+fn wanted_outcome(rt: &impl Abort, rows: &mut SortedRows, command: &Command) -> WriteOutcome {
     outcome_of(&reply(rt, rows, command)).expect(rt, "a reply to a write")
 }
 

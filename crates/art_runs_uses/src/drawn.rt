@@ -9,7 +9,7 @@ use crate::events::{Notes, Tally, check_history, check_kinds};
 use crate::wishes::{Wish, draw, schema_of_rows};
 use art_cell::Pool;
 use art_key::Schema;
-use art_runs::art_call::Outcome;
+use art_runs::art_change::Outcome;
 use art_runs::{Op, run};
 use art_step::Sizes;
 use art_world::World;

@@ -3,7 +3,7 @@ use crate::wishes::{Wish, tuple_of};
 use art_key::{Bound, Deed, Event, Schema, decode, legal};
 use art_look::Seen;
 use art_model::{Command, Reply, Row, SortedRows};
-use art_runs::art_call::{Made, Outcome};
+use art_runs::art_change::{Made, Outcome};
 use std::alloc::Global;
 use std::process::Abort;
 

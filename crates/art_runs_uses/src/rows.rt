@@ -4,7 +4,7 @@ ghost use Rattle.art_runs_uses.specs.Writes.{WritesFirst};
 use crate::cells::check_free_word;
 use crate::clients::{Client, check_find, check_put, check_take, opened};
 use art_cell::{Cell, Pool};
-use art_change::Outcome;
+use art_change::WriteOutcome;
 use art_key::{Key, Schema, encode};
 use art_look::Outcome as Got;
 use art_model::{Tuple, Value};
@@ -54,10 +54,10 @@ fn rows_that_are_inserted_are_found(rt: HostRuntime) {
     let mut client = opened(&rt, rt.alloc(), &SIZES, 0);
     let one = key_of(&rt, "u8", 1);
     let five = key_of(&rt, "u8", 5);
-    let stands = Outcome::Present(10);
+    let stands = WriteOutcome::Present(10);
     check_find(&rt, &mut client, &one, Got::Absent);
-    check_put(&rt, &mut client, &one, 10, Outcome::New);
-    check_put(&rt, &mut client, &five, 50, Outcome::New);
+    check_put(&rt, &mut client, &one, 10, WriteOutcome::New);
+    check_put(&rt, &mut client, &five, 50, WriteOutcome::New);
     check_put(&rt, &mut client, &one, 11, stands);
     check_find(&rt, &mut client, &one, Got::Found(10));
     check_find(&rt, &mut client, &five, Got::Found(50));
@@ -73,7 +73,7 @@ pub(crate) fn fills(rt: &impl Abort, client: &mut Client, schema: &str, first: u
     for number in first..end {
         let key = key_of(rt, schema, number);
         let value = u64::from(number);
-        check_put(rt, client, &key, value, Outcome::New);
+        check_put(rt, client, &key, value, WriteOutcome::New);
         check_find(rt, client, &key, Got::Found(value));
     }
 }
@@ -86,9 +86,9 @@ pub(crate) fn empties(rt: &impl Abort, client: &mut Client, schema: &str, first:
     for number in first..end {
         let key = key_of(rt, schema, number);
         let value = u64::from(number);
-        check_take(rt, client, &key, Outcome::Gone(value));
+        check_take(rt, client, &key, WriteOutcome::Gone(value));
         check_find(rt, client, &key, Got::Absent);
-        check_take(rt, client, &key, Outcome::Absent);
+        check_take(rt, client, &key, WriteOutcome::Absent);
     }
 }
 
@@ -151,7 +151,7 @@ fn a_third_row_finds_two_leaves_full(rt: HostRuntime) {
     let mut client = opened(&rt, rt.alloc(), &FEW, 0);
     fills(&rt, &mut client, "u8", 0, 2);
     let third = key_of(&rt, "u8", 2);
-    let full = Outcome::Full(Pool::Leaves);
+    let full = WriteOutcome::Full(Pool::Leaves);
     check_put(&rt, &mut client, &third, 2, full);
     check_find(&rt, &mut client, &third, Got::Absent);
     check_limbo(&rt, &client);
@@ -162,7 +162,7 @@ fn a_full_node4_finds_no_node16(rt: HostRuntime) {
     let mut client = opened(&rt, rt.alloc(), &NO_NODE16, 0);
     fills(&rt, &mut client, "u8", 0, 4);
     let fifth = key_of(&rt, "u8", 4);
-    let full = Outcome::Full(Pool::N16);
+    let full = WriteOutcome::Full(Pool::N16);
     check_put(&rt, &mut client, &fifth, 4, full);
     check_free_word(&rt, &client.world, Pool::Leaves, 0, 0xf0);
     check_limbo(&rt, &client);
@@ -175,7 +175,7 @@ const LAST: u64 = (1 << 62) - 8;
 fn the_anchor_at_the_end_of_its_counter_is_exhausted(rt: HostRuntime) {
     let mut client = opened(&rt, rt.alloc(), &SIZES, LAST);
     let one = key_of(&rt, "u8", 1);
-    let exhausted = Outcome::Exhausted(Cell::Anchor);
+    let exhausted = WriteOutcome::Exhausted(Cell::Anchor);
     check_put(&rt, &mut client, &one, 1, exhausted);
     check_find(&rt, &mut client, &one, Got::Absent);
     check_free_word(&rt, &client.world, Pool::Leaves, 0, u64::MAX);
@@ -188,10 +188,10 @@ fn a_node_below_an_anchor_at_its_end_is_changed(rt: HostRuntime) {
     let mut client = opened(&rt, rt.alloc(), &SIZES, LAST - 2);
     fills(&rt, &mut client, "u8", 0, 4);
     let fifth = key_of(&rt, "u8", 4);
-    let exhausted = Outcome::Exhausted(Cell::Anchor);
+    let exhausted = WriteOutcome::Exhausted(Cell::Anchor);
     check_put(&rt, &mut client, &fifth, 4, exhausted);
     let third = key_of(&rt, "u8", 2);
-    check_take(&rt, &mut client, &third, Outcome::Gone(2));
+    check_take(&rt, &mut client, &third, WriteOutcome::Gone(2));
     check_find(&rt, &mut client, &third, Got::Absent);
     check_few_wait(&rt, &client);
 }

@@ -5,7 +5,7 @@ use crate::cells::account_with_rows;
 use crate::clients::{Client, check_find, check_put, opened};
 use crate::rows::{empties, fills, key_of};
 use art_cell::{Cell, Layout, Node, Pool};
-use art_change::Outcome;
+use art_change::WriteOutcome;
 use art_look::Outcome as Got;
 use art_step::Sizes;
 use art_world::World;
@@ -78,7 +78,7 @@ fn a_full_node4_waits_for_the_only_node16(rt: HostRuntime) {
     fills(&rt, &mut client, "u16", 0, 5);
     fills(&rt, &mut client, "u16", 256, 260);
     let fifth = key_of(&rt, "u16", 260);
-    let full = Outcome::Full(Pool::N16);
+    let full = WriteOutcome::Full(Pool::N16);
     check_put(&rt, &mut client, &fifth, 260, full);
     check_unpinned(&rt, &client.world);
     account_with_rows(&rt, rt.alloc(), &client.world, client.caller.limbo(), 9);

@@ -1,5 +1,5 @@
 -- the crates below, for those above to name
-pub use Rattle.art_table.specs.ArtCall
+pub use Rattle.art_table.specs.ArtChange
 pub use Rattle.art_table.specs.ArtRefusal
 pub use Rattle.art_table.specs as ArtTable
 pub mod Alone

@@ -1,5 +1,5 @@
 -- the crates below, for those above to name
-pub use Rattle.art_scan.specs.ArtCall
+pub use Rattle.art_scan.specs.ArtChange
 pub use Rattle.art_scan.specs.ArtRefusal
 pub use Rattle.art_scan.specs as ArtScan
 pub use Rattle.art_scan.specs.ArtTable

@@ -3,9 +3,9 @@ use Rattle.std.proofs.Common.{◌≡◌, ℕ, true, List, [], ◌++◌, length, 
 use Rattle.std.specs.List.{AllByRecursion}
 use Rattle.std.specs.Option.{option_map}
 use Rattle.std.specs.Prelude.{Result, Ok, Err}
-use Rattle.art_server.specs.ArtCall.Calls as calls
-use Rattle.art_server.specs.ArtCall.declared.outcomes.Outcome.{Outcome as CallOutcome}
-use Rattle.art_server.specs.ArtCall.declared.outcomes.Outcome.TheVariants as outcome
+use Rattle.art_server.specs.ArtChange.Calls as calls
+use Rattle.art_server.specs.ArtChange.declared.outcomes.Outcome.{Outcome as CallOutcome}
+use Rattle.art_server.specs.ArtChange.declared.outcomes.Outcome.TheVariants as outcome
 use Rattle.art_key.specs.Columns.{tuple_fault}
 use Rattle.art_key.specs.declared.columns.Column.{Column}
 use Rattle.art_key.specs.declared.events.Deed.TheVariants.{Done}

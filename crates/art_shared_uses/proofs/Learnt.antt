@@ -1,6 +1,6 @@
 -- A pass that has looked at the anchor may call as before.
 use Rattle.std.proofs.Common.{◌∙◌, [], sym, ap, subst}
-use Rattle.art_call.specs.declared.callers.Caller.{Caller}
+use Rattle.art_change.specs.declared.callers.Caller.{Caller}
 use Rattle.art_epoch.specs.Limbo.{IsLimbo, places_of}
 use Rattle.art_shared.specs.declared.pass.Pass.{Pass}
 use Rattle.art_shared.specs.declared.shared.Shared.{Shared}

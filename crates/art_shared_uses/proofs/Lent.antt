@@ -1,7 +1,7 @@
 -- A pass that was lent to its table is one of it still, and may call if it may as it was lent.
 use Rattle.std.proofs.Common.{◌≡◌, ap, subst}
-use Rattle.art_call.specs.Calls.{IsCaller}
-use Rattle.art_call.specs.declared.callers.Caller.{Caller}
+use Rattle.art_change.specs.Calls.{IsCaller}
+use Rattle.art_change.specs.declared.callers.Caller.{Caller}
 use Rattle.art_shared.specs.declared.law.Basis.{Basis}
 use Rattle.art_shared.specs.declared.pass.Pass.{Pass}
 use Rattle.art_shared.specs.declared.shared.Shared.{Shared}

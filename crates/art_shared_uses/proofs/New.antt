@@ -1,8 +1,8 @@
 -- A pass that made no step yet may call.
 use Rattle.std.proofs.Common.{◌≡◌, ◌<◌, ℕ, zero, suc, List, [], ◌∷◌, take, Some, ap}
 use Rattle.std.specs.List.{slice_get}
-use Rattle.art_call.specs.Calls.{IsCaller, IsFresh}
-use Rattle.art_call.specs.declared.callers.Caller.{Caller}
+use Rattle.art_change.specs.Calls.{IsCaller, IsFresh}
+use Rattle.art_change.specs.declared.callers.Caller.{Caller}
 use Rattle.art_shared.specs.declared.law.Known.{Known}
 use Rattle.art_shared.specs.declared.pass.Pass.{Pass}
 use Rattle.art_shared.specs.declared.shared.Shared.{Shared}

@@ -2,8 +2,8 @@
 use Rattle.art_key.specs.Spelling.{IsKeyOf}
 use Rattle.std.specs.Prelude.{◌≡◌, ℕ, List, Some}
 use Rattle.std.specs.List.{slice_get}
-use Rattle.art_call.specs.Calls.{IsCaller}
-use Rattle.art_call.specs.declared.callers.Caller.{Caller}
+use Rattle.art_change.specs.Calls.{IsCaller}
+use Rattle.art_change.specs.declared.callers.Caller.{Caller}
 use Rattle.art_shared.specs.declared.pass.Pass.{Pass}
 use Rattle.art_shared.specs.declared.shared.Shared.{Shared}
 use Rattle.art_shared.specs.Passes.{newcomer_known}

@@ -3,8 +3,7 @@ ghost use Rattle.std.specs.Prelude.{◌≤◌, IfSome};
 ghost use Rattle.art_shared_uses.specs.Clients.{AreNew, IsKey, IsNew, Writes};
 ghost use Rattle.art_step.specs.Views.{last_counter};
 
-use art_call::Caller;
-use art_change::Outcome;
+use art_change::{Caller, WriteOutcome};
 use art_key::{Key, Schema, encode};
 use art_look::Outcome as Got;
 use art_model::{Tuple, Value};
@@ -77,7 +76,7 @@ pub(crate) fn puts(
     caller: &mut Caller,
     number: u16,
     value: u64,
-) -> Outcome
+) -> WriteOutcome
     requires { Writes shared.now pass.old caller.old }
     ensures { Writes shared.now pass.new caller.new }
 {
@@ -93,7 +92,7 @@ pub(crate) fn takes(
     pass: &mut Pass,
     caller: &mut Caller,
     number: u16,
-) -> Outcome
+) -> WriteOutcome
     requires { Writes shared.now pass.old caller.old }
     ensures { Writes shared.now pass.new caller.new }
 {
@@ -141,7 +140,7 @@ pub(crate) fn check_put(
     caller: &mut Caller,
     number: u16,
     value: u64,
-    wanted: Outcome,
+    wanted: WriteOutcome,
 )
     requires { Writes shared.now pass.old caller.old }
     ensures { Writes shared.now pass.new caller.new }
@@ -156,7 +155,7 @@ pub(crate) fn check_take(
     pass: &mut Pass,
     caller: &mut Caller,
     number: u16,
-    wanted: Outcome,
+    wanted: WriteOutcome,
 )
     requires { Writes shared.now pass.old caller.old }
     ensures { Writes shared.now pass.new caller.new }

@@ -5,8 +5,7 @@ ghost use Rattle.art_shared_uses.specs.Clients.{AreNew, AreOf, IsNew, Writes};
 
 use crate::clients::{asks, caller_of, check_find, last_of, opened, puts, takes};
 use crate::closing::{Closed, Counts, POOLS, ended};
-use art_call::Caller;
-use art_change::Outcome;
+use art_change::{Caller, WriteOutcome};
 use art_look::Outcome as Got;
 use art_shared::{Pass, Shared};
 use art_step::Sizes;
@@ -56,11 +55,11 @@ impl Tally {
     }
 
     /// A write with the key ended so.
-    fn wrote(&mut self, number: u16, outcome: Outcome) {
+    fn wrote(&mut self, number: u16, outcome: WriteOutcome) {
         let place = usize::from(number) % KEYS;
         match outcome {
-            Outcome::New => self.new[place] = self.new[place].saturating_add(1),
-            Outcome::Gone(_) => self.gone[place] = self.gone[place].saturating_add(1),
+            WriteOutcome::New => self.new[place] = self.new[place].saturating_add(1),
+            WriteOutcome::Gone(_) => self.gone[place] = self.gone[place].saturating_add(1),
             _ => {}
         }
     }

@@ -2,10 +2,9 @@
 ghost use Rattle.art_shared_uses.specs.Clients.{Writes};
 
 use crate::clients::{caller_of, check_put, key_of, last_of, opened};
-use art_call::Caller;
-use art_change::Outcome;
+use art_change::{Caller, WriteOutcome};
 use art_key::{Bound, Key};
-use art_look::Seen;
+use art_look::{Reached, Seen};
 use art_shared::{Pass, Shared};
 use art_step::Sizes;
 use std::process::Abort;
@@ -28,7 +27,24 @@ fn sees(shared: &Shared, pass: &mut Pass, caller: &mut Caller, lo: &Key) -> Opti
     ensures { Writes shared.now pass.new caller.new }
 {
     let mut stepper = shared.at(pass);
-    caller.look(&mut stepper, lo, &Bound::End, TURNS)
+    let reached = caller.look(&mut stepper, lo, &Bound::End, TURNS);
+    seen_by(caller, lo, reached)
+}
+
+/// What a look from the key on has seen that reached so far.
+fn seen_by(caller: &Caller, lo: &Key, reached: Option<Reached>) -> Option<Seen> {
+    let reached = reached?;
+    let row = caller.row_seen(reached, lo, &Bound::End);
+    Some(Seen {
+        lo: copied(lo.as_slice()),
+        hi: caller.end_seen(reached, &Bound::End),
+        row: row.map(|(key, value)| (copied(key), value)),
+    })
+}
+
+/// The bytes as a key.
+fn copied(bytes: &[u8]) -> Key {
+    Key::try_from(bytes).unwrap_or_default()
 }
 
 /// A look from the key of the number on sees all up to the bound, with this row.
@@ -55,8 +71,24 @@ fn looks_tile_a_range(rt: HostRuntime) {
     let mut other = last_of(&rt, &shared, &mut passes);
     let mut pass = last_of(&rt, &shared, &mut passes);
     let mut writer = caller_of(&rt, &shared, &pass);
-    check_put(&rt, &shared, &mut pass, &mut writer, 1, 1, Outcome::New);
-    check_put(&rt, &shared, &mut pass, &mut writer, 5, 5, Outcome::New);
+    check_put(
+        &rt,
+        &shared,
+        &mut pass,
+        &mut writer,
+        1,
+        1,
+        WriteOutcome::New,
+    );
+    check_put(
+        &rt,
+        &shared,
+        &mut pass,
+        &mut writer,
+        5,
+        5,
+        WriteOutcome::New,
+    );
     let mut looker = caller_of(&rt, &shared, &other);
     let (one, two) = (key_of(&rt, &shared, 1), key_of(&rt, &shared, 2));
     check_look(

@@ -4,7 +4,7 @@ ghost use Rattle.art_shared.specs.Tables.{IsPassOf};
 ghost use Rattle.art_shared_uses.specs.Clients.{IsNew};
 
 use crate::clients::{caller_of, check_find, check_put, last_of, opened};
-use art_change::Outcome;
+use art_change::WriteOutcome;
 use art_look::Outcome as Got;
 use art_shared::{Mark, Pass, Shared};
 use art_step::Sizes;
@@ -44,7 +44,7 @@ pub(crate) fn puts_and_marks(
         &mut caller,
         number,
         value,
-        Outcome::New,
+        WriteOutcome::New,
     );
     let mark = shared.mark(&mut pass);
     (pass, mark)

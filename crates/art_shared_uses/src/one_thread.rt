@@ -5,9 +5,8 @@ ghost use Rattle.art_step.specs.Views.{last_counter};
 
 use crate::clients::{caller_of, check_find, check_put, check_take, last_of, opened};
 use crate::closing::ended;
-use art_call::Caller;
 use art_cell::{Cell, Pool};
-use art_change::Outcome;
+use art_change::{Caller, WriteOutcome};
 use art_look::Outcome as Got;
 use art_shared::{Pass, Shared};
 use art_step::Sizes;
@@ -60,7 +59,7 @@ fn fills(
 {
     for number in first..end {
         let value = u64::from(number);
-        check_put(rt, shared, pass, caller, number, value, Outcome::New);
+        check_put(rt, shared, pass, caller, number, value, WriteOutcome::New);
         check_find(rt, shared, pass, caller, number, TURNS, Got::Found(value));
         check_put(
             rt,
@@ -69,7 +68,7 @@ fn fills(
             caller,
             number,
             1_000,
-            Outcome::Present(value),
+            WriteOutcome::Present(value),
         );
     }
 }
@@ -88,9 +87,9 @@ fn empties(
 {
     for number in first..end {
         let value = u64::from(number);
-        check_take(rt, shared, pass, caller, number, Outcome::Gone(value));
+        check_take(rt, shared, pass, caller, number, WriteOutcome::Gone(value));
         check_find(rt, shared, pass, caller, number, TURNS, Got::Absent);
-        check_take(rt, shared, pass, caller, number, Outcome::Absent);
+        check_take(rt, shared, pass, caller, number, WriteOutcome::Absent);
     }
 }
 
@@ -172,7 +171,7 @@ fn check_refused(
     sizes: &Sizes,
     counter_start: u64,
     number: u16,
-    wanted: Outcome,
+    wanted: WriteOutcome,
 )
     requires { counter_start ≤ last_counter }
 {
@@ -208,11 +207,11 @@ fn a_refused_insert_leaves_all_as_it_was(rt: HostRuntime) {
         n256: 1,
         passes: 1,
     };
-    let no_leaf = Outcome::Full(Pool::Leaves);
+    let no_leaf = WriteOutcome::Full(Pool::Leaves);
     check_refused(&rt, rt.alloc(), &two, 0, 2, no_leaf);
     let no_node16 = Sizes { leaves: 8, ..two };
-    let no_node = Outcome::Full(Pool::N16);
+    let no_node = WriteOutcome::Full(Pool::N16);
     check_refused(&rt, rt.alloc(), &no_node16, 0, 4, no_node);
-    let anchor = Outcome::Exhausted(Cell::Anchor);
+    let anchor = WriteOutcome::Exhausted(Cell::Anchor);
     check_refused(&rt, rt.alloc(), &ONE_PASS, LAST, 0, anchor);
 }

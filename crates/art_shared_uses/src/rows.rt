@@ -6,7 +6,7 @@ ghost use Rattle.art_shared_uses.specs.Clients.{AreNew, AreOf, IsNew};
 use crate::clients::{caller_of, check_find, check_put, last_of, opened};
 use crate::closing::ended;
 use art_cell::Pool;
-use art_change::Outcome;
+use art_change::WriteOutcome;
 use art_look::Outcome as Got;
 use art_shared::{Pass, Shared};
 use art_step::Sizes;
@@ -49,7 +49,7 @@ fn fills(rt: &impl Abort, shared: &Shared, mut pass: Pass) -> Pass
             &mut caller,
             number,
             value,
-            Outcome::New,
+            WriteOutcome::New,
         );
     }
     pass

@@ -4,9 +4,8 @@ ghost use Rattle.art_shared_uses.specs.Clients.{IsNew, Writes};
 
 use crate::clients::{caller_of, check_find, check_put, check_take, last_of, opened};
 use crate::closing::{ended, with_last};
-use art_call::Caller;
 use art_cell::Cell;
-use art_change::Outcome;
+use art_change::{Caller, WriteOutcome};
 use art_look::Outcome as Got;
 use art_shared::{Pass, Shared};
 use art_step::Sizes;
@@ -36,9 +35,9 @@ fn round(rt: &impl Abort, shared: &Shared, pass: &mut Pass, caller: &mut Caller,
     ensures { Writes shared.now pass.new caller.new }
 {
     let value = u64::from(number);
-    check_put(rt, shared, pass, caller, number, value, Outcome::New);
+    check_put(rt, shared, pass, caller, number, value, WriteOutcome::New);
     if number % 10 == 9 {
-        check_take(rt, shared, pass, caller, number, Outcome::Gone(value));
+        check_take(rt, shared, pass, caller, number, WriteOutcome::Gone(value));
     }
 }
 

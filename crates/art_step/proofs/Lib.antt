@@ -1,7 +1,9 @@
 pub mod AdmittedRows
+pub mod AnswerKinds
 pub mod AnyStep
 pub mod AtSteps
 pub mod Changing
+pub mod Counting
 pub mod Determined
 pub mod EpochBound
 pub mod EpochMoves
@@ -16,6 +18,7 @@ pub mod OpeningWords
 pub mod PinsStay
 pub mod SetsView
 pub mod Shows
+pub mod Silence
 pub mod SoundParts
 pub mod StepCommits
 pub mod StepEpochs
@@ -27,3 +30,4 @@ pub mod StepWrites
 pub mod WordForms
 pub mod WordPlaces
 pub mod WordRows
+pub mod Words

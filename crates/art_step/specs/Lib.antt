@@ -1,3 +1,4 @@
+pub mod Acting
 pub mod Deeds
 pub mod Determined
 pub mod Effects
@@ -11,6 +12,7 @@ pub mod Sound
 pub mod StepNames
 pub mod Steps
 pub mod Tokens
+pub mod Turns
 pub mod Views
 pub mod WordPlaces
 pub mod WordRows

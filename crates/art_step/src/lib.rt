@@ -107,12 +107,31 @@
 //! word changes, one view does. `begin.Law` says that what is sound before it is sound after it, and `begin.Outcome` what the
 //! caller is shown.
 //!
+//! # One alphabet for all machines
+//!
+//! A call of the index is a machine of many parts: a descent, a search for a free number, a validation, a change. Each part asks
+//! for one step at a time, and whoever drives it may let other passes make theirs in between. Were each part to have steps of its
+//! own, each driver would have to know all of them, and so would each theorem about what a step does.
+//!
+//! ```text
+//! machine.next() ──► Action ──► perform(steps, action, effects) ──► Answer ──► machine.told(answer)
+//! ```
+//!
+//! An [`Action`] is one call of `Steps` or `EpochSteps` with its arguments, and an [`Answer`] is what it gave back. [`perform`]
+//! makes that call. Two actions bring something about: a check that settles an answer, and the release that commits a change.
+//! What they bring about stands in the [`Effects`], which is large and stays where it is.
+//!
+//! `specs/Acting.antt` says for each action what a pass needs to know before it (`IsAllowed`), and what it knows after it by the
+//! answer (`Answers`): an answer of another kind cannot come. No word of a node is read before a path to it was noted, and none
+//! of a leaf before the check of the cell that names it.
+//!
 //! # How to add a kind of step
 //!
 //! A page in `specs/Steps` with the same names in the same order (`May`, `view_after`, `Step`, `Outcome`, `Law`), a case of
 //! `OfAKind` in `specs/Steps.antt`, a file of its law in `proofs`, a lemma there that makes the view after it (as those of
 //! `Moves.antt` and `EpochMoves.antt`), lines in `AnyStep.antt`, `Determined.antt` and `LimboWaits.antt`, and a call of
-//! one of the two traits. What happens to words at it is said with the words of `specs/Effects.antt`.
+//! one of the two traits. What happens to words at it is said with the words of `specs/Effects.antt`. For machines, a case of
+//! `Action` and, where none of those fits, of `Answer`, with their rows in `specs/Acting.antt`.
 //!
 //! # Letters
 //!
@@ -130,6 +149,7 @@
 //! | us, ls | numbers that leave the tree, and that come into it |
 #![tactic(auto)]
 
+mod actions;
 mod deeds;
 mod faults;
 mod held;
@@ -142,6 +162,7 @@ mod versions;
 mod views;
 mod word_places;
 
+pub use actions::{Action, Answer, Effects, perform};
 pub use deeds::{Act, Deed};
 pub use faults::{Changed, Locked, UpgradeFault};
 pub use held::Held;

@@ -2,10 +2,10 @@
 use Rattle.std.proofs.Common.{◌≡◌, ℕ, true, Some, None, ap}
 use Rattle.std.specs.Prelude.{Result, Ok, Err}
 use Rattle.arrayvec.specs.ArrayVec.{ArrayVec}
-use Rattle.art_call.specs.Calls as calls
-use Rattle.art_call.specs.Calls.{may_end}
-use Rattle.art_call.specs.declared.outcomes.Outcome.{Outcome as CallOutcome}
-use Rattle.art_call.specs.declared.outcomes.Outcome.TheVariants as outcome
+use Rattle.art_change.specs.Calls as calls
+use Rattle.art_change.specs.Calls.{may_end}
+use Rattle.art_change.specs.declared.outcomes.Outcome.{Outcome as CallOutcome}
+use Rattle.art_change.specs.declared.outcomes.Outcome.TheVariants as outcome
 use Rattle.art_key.specs.declared.bounds.Bound.{Bound}
 use Rattle.art_key.specs.declared.columns.Column.{Column}
 use Rattle.art_key.specs.declared.faults.ValueFault.{ValueFault}

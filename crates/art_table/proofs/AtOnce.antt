@@ -2,13 +2,13 @@
 use Rattle.std.proofs.Common.{◌≡◌, ◌∙◌, ℕ, List, Option, Some, None, Result, refl, sym, ap, subst}
 use Rattle.std.specs.Box.{with_value}
 use Rattle.arrayvec.specs.ArrayVec.{ArrayVec}
-use Rattle.art_call.specs.Calls.{HasCalled, IsCaller, Wish}
-use Rattle.art_call.specs.declared.callers.Caller.{Caller}
-use Rattle.art_call.specs.Outcomes.{of_look, of_seek, of_write}
-use Rattle.art_call.specs.declared.outcomes.Outcome.{Outcome as CallOutcome}
-use Rattle.art_call.specs.declared.outcomes.Outcome.TheVariants as outcome
-use Rattle.art_call.specs.ArtChange.declared.writes.Outcome.{Outcome as WriteOutcome}
-use Rattle.art_call.specs.ArtChange.declared.writes.Outcome.TheVariants as write
+use Rattle.art_change.specs.Calls.{HasCalled, IsCaller, Wish}
+use Rattle.art_change.specs.declared.callers.Caller.{Caller}
+use Rattle.art_change.specs.Outcomes.{of_look, of_seek, of_write}
+use Rattle.art_change.specs.declared.outcomes.Outcome.{Outcome as CallOutcome}
+use Rattle.art_change.specs.declared.outcomes.Outcome.TheVariants as outcome
+use Rattle.art_change.specs.declared.writes.WriteOutcome.{WriteOutcome}
+use Rattle.art_change.specs.declared.writes.WriteOutcome.TheVariants as write
 use Rattle.art_key.specs.Columns.{tuple_fault}
 use Rattle.art_key.specs.Spelling.{IsKeyOf, IsSpelling}
 use Rattle.art_key.specs.declared.columns.Column.{Column}

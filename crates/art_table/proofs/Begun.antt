@@ -2,8 +2,8 @@
 use Rattle.std.proofs.Common.{◌≡◌, ◌∙◌, ℕ, List, None, refl, sym, ap, subst}
 use Rattle.std.specs.Box.{with_value}
 use Rattle.arrayvec.specs.ArrayVec.{ArrayVec}
-use Rattle.art_call.specs.Calls.{IsAdmitted, IsCaller, IsCalling, StaysApart, Wish}
-use Rattle.art_call.specs.declared.callers.Caller.{Caller}
+use Rattle.art_change.specs.Calls.{IsAdmitted, IsCaller, IsCalling, StaysApart, Wish}
+use Rattle.art_change.specs.declared.callers.Caller.{Caller}
 use Rattle.art_key.specs.Columns.{tuple_fault}
 use Rattle.art_key.specs.Spelling.{IsKeyOf, IsSpelling}
 use Rattle.art_key.specs.declared.columns.Column.{Column}

@@ -2,10 +2,10 @@
 use Rattle.std.proofs.Common.{◌≡◌, ◌∙◌, ℕ, true, List, Option, Some, None, refl, sym, ap, subst}
 use Rattle.std.specs.Ordering.{is_lt}
 use Rattle.arrayvec.specs.ArrayVec.{ArrayVec}
-use Rattle.art_call.specs.Calls as calls
-use Rattle.art_call.specs.Calls.{HasCalled, IsRangeSeen}
-use Rattle.art_call.specs.declared.outcomes.Outcome.{Outcome as CallOutcome}
-use Rattle.art_call.specs.declared.outcomes.Outcome.TheVariants as outcome
+use Rattle.art_change.specs.Calls as calls
+use Rattle.art_change.specs.Calls.{HasCalled, IsRangeSeen}
+use Rattle.art_change.specs.declared.outcomes.Outcome.{Outcome as CallOutcome}
+use Rattle.art_change.specs.declared.outcomes.Outcome.TheVariants as outcome
 use Rattle.art_key.specs.Bounds.{is_before}
 use Rattle.art_key.specs.Histories.{IsLegal as IsLegalTyped}
 use Rattle.art_key.specs.declared.bounds.Bound.{Bound}

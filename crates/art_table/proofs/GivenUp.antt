@@ -2,9 +2,9 @@
 use Rattle.std.proofs.Common.{◌≡◌, ◌≤◌, ℕ, None, refl, sym, subst, arith}
 use Rattle.std.specs.Box.{with_value}
 use Rattle.std.specs.Prelude.{Result, Ok, Err, IsErr}
-use Rattle.art_call.specs.Calls.{HoldsOrTold, IsCalling, StaysApart, Wish}
-use Rattle.art_call.specs.declared.callers.Caller.{Caller}
-use Rattle.art_call.proofs.GivenUp.{free_untold}
+use Rattle.art_change.specs.Calls.{HoldsOrTold, IsCalling, StaysApart, Wish}
+use Rattle.art_change.specs.declared.callers.Caller.{Caller}
+use Rattle.art_change.proofs.GivenUp.{free_untold}
 use Rattle.art_step.specs.declared.views.Sizes.{Sizes}
 use Rattle.art_step.specs.declared.views.View.{View}
 use Rattle.art_table.specs.Attempts.{IsGivenUp}

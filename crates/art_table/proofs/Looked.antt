@@ -1,6 +1,6 @@
 -- A pass that has looked at the anchor may call on.
 use Rattle.std.proofs.Common.{◌≡◌, ◌∙◌, ◌+◌, ℕ, List, [], refl, sym, ap, subst}
-use Rattle.art_call.specs.Calls.{IsCaller}
+use Rattle.art_change.specs.Calls.{IsCaller}
 use Rattle.art_shared.specs.Marks.{Meets}
 use Rattle.art_shared.specs.SamePass.{SameSeat}
 use Rattle.art_shared.specs.Tables as shared

@@ -2,8 +2,8 @@
 use Rattle.std.proofs.Common.{◌≡◌, ◌++◌, ◌<◌, ◌∙◌, ℕ, zero, suc, List, [], ◌∷◌, Some, length, inl, inr, refl, sym, ap, subst, append_assoc}
 use Rattle.std.proofs.lemmas.Option.{same_Some}
 use Rattle.std.specs.List.{slice_get}
-use Rattle.art_call.specs.ArtAttempt.Trying.{IsLimited}
-use Rattle.art_call.specs.Calls.{IsCaller, IsFresh}
+use Rattle.art_change.specs.ArtAttempt.Trying.{IsLimited}
+use Rattle.art_change.specs.Calls.{IsCaller, IsFresh}
 use Rattle.art_key.specs.declared.columns.Column.{Column}
 use Rattle.art_shared.specs.Opening.{OpensWith}
 use Rattle.art_shared.specs.Passes.{newcomer_known, view_in}

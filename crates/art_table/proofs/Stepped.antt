@@ -1,10 +1,10 @@
 -- A pass that was lent to the table, whose caller made steps.
 use Rattle.std.proofs.Common.{◌≡◌, ℕ, sym, ap, subst}
 use Rattle.std.specs.Box.{with_value}
-use Rattle.art_call.specs.Calls.{HasCalled, IsCalling, StaysApart, Wish}
-use Rattle.art_call.specs.declared.callers.Caller.{Caller}
-use Rattle.art_call.specs.declared.outcomes.Outcome.{Outcome as CallOutcome}
-use Rattle.art_call.specs.declared.outcomes.Outcome.TheVariants.{Overlaps}
+use Rattle.art_change.specs.Calls.{HasCalled, IsCalling, StaysApart, Wish}
+use Rattle.art_change.specs.declared.callers.Caller.{Caller}
+use Rattle.art_change.specs.declared.outcomes.Outcome.{Outcome as CallOutcome}
+use Rattle.art_change.specs.declared.outcomes.Outcome.TheVariants.{Overlaps}
 use Rattle.art_shared.proofs.Lent.{lent_passes_stay}
 use Rattle.art_shared.specs.SamePass.{SamePass}
 use Rattle.art_shared.specs.Stepper.{OnlyStepped, basis_of, pass_of, sizes_of}

@@ -1,9 +1,9 @@
 -- A step of an attempt.
 use Rattle.std.specs.Option.{option_map}
 use Rattle.std.specs.Prelude.{◌≡◌, ◌⊎◌, ℕ, ◌+◌, ◌≤◌, List, Option, Some, None, Result, Err}
-use Rattle.art_call.specs.Calls.{outcome_at, restarts_in}
-use Rattle.art_call.specs.Made.{MakesStep}
-use Rattle.art_call.specs.declared.outcomes.Outcome.{Outcome}
+use Rattle.art_change.specs.Calls.{outcome_at, restarts_in}
+use Rattle.art_change.specs.Made.{MakesStep}
+use Rattle.art_change.specs.declared.outcomes.Outcome.{Outcome}
 use Rattle.art_key.specs.declared.columns.Column.{Column}
 use Rattle.art_key.specs.declared.faults.ValueFault.{ValueFault}
 use Rattle.art_shared.specs.SamePass.{SamePass}

@@ -1,8 +1,8 @@
 -- What a call does, as its pass has seen it.
 use Rattle.std.specs.Prelude.{◌≡◌, ◌≢◌, ℕ, ◌+◌, ◌≤◌, List, [], ◌∷◌, ◌++◌, length, Option, Some, None, Result, Ok, Err, ⊤}
-use Rattle.art_call.specs.Calls.{HasCalled, IsCalling, StaysApart}
-use Rattle.art_call.specs.declared.outcomes.Outcome.{Outcome as CallOutcome}
-use Rattle.art_call.specs.declared.outcomes.Outcome.TheVariants.{Overlaps}
+use Rattle.art_change.specs.Calls.{HasCalled, IsCalling, StaysApart}
+use Rattle.art_change.specs.declared.outcomes.Outcome.{Outcome as CallOutcome}
+use Rattle.art_change.specs.declared.outcomes.Outcome.TheVariants.{Overlaps}
 use Rattle.art_key.specs.Histories.{IsLegal}
 use Rattle.art_key.specs.declared.events.Deed.{Deed}
 use Rattle.art_key.specs.declared.events.Event.{Event}

@@ -2,10 +2,10 @@
 use Rattle.std.specs.Prelude.{◌≡◌, ◌⊎◌, ℕ, List, [], true, Option, Some, None, Result, Ok, Err, ⊤}
 use Rattle.std.specs.Option.{option_map}
 use Rattle.arrayvec.specs.ArrayVec.{ArrayVec}
-use Rattle.art_call.specs.Calls as calls
-use Rattle.art_call.specs.Calls.{Wish}
-use Rattle.art_call.specs.declared.outcomes.Outcome.{Outcome as CallOutcome}
-use Rattle.art_call.specs.declared.outcomes.Outcome.TheVariants as outcome
+use Rattle.art_change.specs.Calls as calls
+use Rattle.art_change.specs.Calls.{Wish}
+use Rattle.art_change.specs.declared.outcomes.Outcome.{Outcome as CallOutcome}
+use Rattle.art_change.specs.declared.outcomes.Outcome.TheVariants as outcome
 use Rattle.art_key.specs.Columns.{tuple_fault}
 use Rattle.art_key.specs.Bounds.{is_before}
 use Rattle.art_key.specs.Spelling.{spelling}

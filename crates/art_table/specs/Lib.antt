@@ -1,5 +1,5 @@
 -- the crates below, for those above to name
-pub use Rattle.art_call.specs as ArtCall
+pub use Rattle.art_change.specs as ArtChange
 pub use Rattle.art_refusal.specs as ArtRefusal
 pub mod Attempts
 pub mod Calls

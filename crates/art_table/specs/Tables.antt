@@ -1,9 +1,9 @@
 -- What contracts see of a table, and of a pass.
 use Rattle.std.specs.List.{All}
 use Rattle.std.specs.Prelude.{◌≡◌, ℕ, List}
-use Rattle.art_call.specs.ArtAttempt.Trying.{IsLimited}
-use Rattle.art_call.specs.Calls.{IsCaller, turns_left_in}
-use Rattle.art_call.specs.declared.callers.Caller.{Caller}
+use Rattle.art_change.specs.ArtAttempt.Trying.{IsLimited}
+use Rattle.art_change.specs.Calls.{IsCaller, turns_left_in}
+use Rattle.art_change.specs.declared.callers.Caller.{Caller}
 use Rattle.art_key.specs.declared.columns.Column.{Column}
 use Rattle.art_key.specs.declared.events.Event.{Event}
 use Rattle.art_shared.specs.Tables as shared

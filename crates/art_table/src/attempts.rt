@@ -1,7 +1,7 @@
 //! Calls that are made step by step.
 ghost use Rattle.std.specs.Prelude.{◌≡◌, ◌⊎◌, ℕ, ◌≤◌, IfErr, IfOk, IfSome, OnOk, OnSome, Option, None, Some, true};
-ghost use Rattle.art_call.specs.Calls.{HoldsOrTold};
-ghost use Rattle.art_call.specs.Made.{MakesStep};
+ghost use Rattle.art_change.specs.Calls.{HoldsOrTold};
+ghost use Rattle.art_change.specs.Made.{MakesStep};
 ghost use Rattle.art_key.specs.Bounds.{is_before};
 ghost use Rattle.art_table.specs.Attempts.{HasStopped, IsGivenUp, Progresses, answer_of, restarts_of};
 ghost use Rattle.art_table.specs.Calls.{Ends, IsAttempt};
@@ -12,7 +12,7 @@ ghost use Rattle.art_table.specs.declared.jobs.Job.TheVariants.{Look as look_job
 ghost use Rattle.art_table.specs.declared.passes.Pass.{Pass as PassOf};
 
 use crate::{Fault, Job, Outcome, Pass, Table};
-use art_call::Made;
+use art_change::Made;
 use art_key::{Bound, ValueFault};
 use art_step::StepKind;
 

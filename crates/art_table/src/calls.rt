@@ -2,21 +2,22 @@
 ghost use Rattle.std.specs.Prelude.{◌≡◌, ◌≢◌, ℕ, List, None, Err, IfErr, IfOk, true, false};
 ghost use Rattle.std.specs.Option.{option_map};
 ghost use Rattle.arrayvec.specs.ArrayVec.{ArrayVec as KeyOf};
-ghost use Rattle.art_call.specs.Calls.{Insert as insert_wish, Remove as remove_wish, may_end};
-ghost use Rattle.art_call.specs.Outcomes.{of_seek, of_write};
+ghost use Rattle.art_change.specs.Calls.{Insert as insert_wish, Remove as remove_wish, may_end};
+ghost use Rattle.art_change.specs.Outcomes.{of_seek, of_write};
 ghost use Rattle.art_key.specs.Bounds.{is_before};
 ghost use Rattle.art_key.specs.declared.columns.Column.{Column};
 ghost use Rattle.art_table.specs.Calls.{Ends};
 ghost use Rattle.art_table.specs.Jobs.{of_got, of_inserted, of_removed, result_of, with_result};
 ghost use Rattle.art_table.specs.Looks.{Advances, IsRefused, found_row};
+ghost use Rattle.art_step.specs.Deeds.{key_of};
 ghost use Rattle.art_table.specs.Tables.{IsPassOf};
 ghost use Rattle.art_table.specs.declared.jobs.Job.TheVariants as jobs;
 ghost use Rattle.art_typed.specs.Typed.{row_of};
 
 use crate::{Fault, Pass, Table};
-use art_call::WriteOutcome;
-use art_key::{Bound, Key, Schema, decode_into, encode};
-use art_look::{Outcome as SeekOutcome, Seen};
+use art_change::WriteOutcome;
+use art_key::{Bound, Schema, decode_into, encode};
+use art_look::Outcome as SeekOutcome;
 use art_model::{Row, Tuple};
 
 /// What an insert did.
@@ -92,27 +93,27 @@ pub fn look(
         unreachable!()
     };
     let mut stepper = table.shared.at(&mut pass.seat);
-    let Some(seen) = pass.caller.look(&mut stepper, key, end, turns) else {
+    let Some(reached) = pass.caller.look(&mut stepper, key, end, turns) else {
         return Err(Fault::Busy);
     };
-    let found = read_row(table.schema(), &seen.row, row);
-    let Seen { hi, .. } = seen;
-    *from = hi;
+    let seen = pass.caller.row_seen(reached, key, end);
+    let found = read_row(table.schema(), seen, row);
+    *from = pass.caller.end_seen(reached, end);
     Ok(found)
 }
 
 /// Reads the row of a key and its value, if there is one, over the row that stands, and answers whether there was. Each key of a table
 /// spells a tuple, which is read in its place there: it has room for eight columns, and is dear to make and to move.
 #[inline(always)]
-fn read_row(schema: &Schema, found: &Option<(Key, u64)>, row: &mut Row) -> bool
-    ensures found { found_row result row.new ≡ option_map (row_of schema.now) found.now }
+fn read_row(schema: &Schema, found: Option<(&[u8], u64)>, row: &mut Row) -> bool
+    ensures found { found_row result row.new ≡ option_map (λ r. row_of schema.now (key_of r.0.now, r.1)) found.entry }
     ensures kept { result ≡ false → row.new ≡ row.old }
 {
     let Some((key, value)) = found else {
         return false;
     };
-    let _ = decode_into(schema, key.as_slice(), &mut row.tuple);
-    row.value = *value;
+    let _ = decode_into(schema, key, &mut row.tuple);
+    row.value = value;
     true
 }
 

@@ -1,6 +1,6 @@
 //! What a call is asked for, and what it answers.
 ghost use Rattle.std.specs.Prelude.{◌≡◌, ◌≢◌};
-ghost use Rattle.art_call.specs.declared.outcomes.Outcome.TheVariants.{Overlaps as overlaps};
+ghost use Rattle.art_change.specs.declared.outcomes.Outcome.TheVariants.{Overlaps as overlaps};
 ghost use Rattle.art_table.specs.Jobs.{result_of, seen_of};
 ghost use Rattle.art_typed.specs.Typed.{row_of};
 ghost use Rattle.std.specs.Option.{option_map};
@@ -49,22 +49,22 @@ pub enum Outcome {
 }
 
 /// What a call answers that ended so, or why it is refused.
-pub(crate) fn result_of(schema: &Schema, outcome: art_call::Outcome) -> Result<Outcome, Fault>
+pub(crate) fn result_of(schema: &Schema, outcome: art_change::Outcome) -> Result<Outcome, Fault>
     requires { outcome ≢ overlaps }
     ensures { result ≡ result_of schema.now outcome }
 {
     match outcome {
-        art_call::Outcome::New => Ok(Outcome::New),
-        art_call::Outcome::Present(value) => Ok(Outcome::Present(value)),
-        art_call::Outcome::Gone(value) => Ok(Outcome::Removed(value)),
-        art_call::Outcome::Absent => Ok(Outcome::Absent),
-        art_call::Outcome::Found(value) => Ok(Outcome::Found(value)),
-        art_call::Outcome::Seen(seen) => Ok(Outcome::Seen(seen_of(schema, seen))),
-        art_call::Outcome::Busy => Err(Fault::Busy),
-        art_call::Outcome::Full(pool) => Err(Fault::Full(pool)),
-        art_call::Outcome::Crowded(blocker) => Err(Fault::Crowded(blocker)),
-        art_call::Outcome::Exhausted(cell) => Err(Fault::Exhausted(cell)),
-        art_call::Outcome::Overlaps => unreachable!(),
+        art_change::Outcome::New => Ok(Outcome::New),
+        art_change::Outcome::Present(value) => Ok(Outcome::Present(value)),
+        art_change::Outcome::Gone(value) => Ok(Outcome::Removed(value)),
+        art_change::Outcome::Absent => Ok(Outcome::Absent),
+        art_change::Outcome::Found(value) => Ok(Outcome::Found(value)),
+        art_change::Outcome::Seen(seen) => Ok(Outcome::Seen(seen_of(schema, seen))),
+        art_change::Outcome::Busy => Err(Fault::Busy),
+        art_change::Outcome::Full(pool) => Err(Fault::Full(pool)),
+        art_change::Outcome::Crowded(blocker) => Err(Fault::Crowded(blocker)),
+        art_change::Outcome::Exhausted(cell) => Err(Fault::Exhausted(cell)),
+        art_change::Outcome::Overlaps => unreachable!(),
     }
 }
 

@@ -1,9 +1,9 @@
 //! A pass: who may call a table.
 ghost use Rattle.std.specs.Prelude.{◌≡◌, ℕ, IfErr, IfNone, IfSome, IsErr, OnErr, OnOk, Some, true};
 ghost use Rattle.std.specs.Option.{option_map};
-ghost use Rattle.art_call.specs.Calls.{Refuses, outcome_at};
-ghost use Rattle.art_call.specs.Made.{MakesStep};
-ghost use Rattle.art_call.specs.declared.outcomes.Outcome.{Outcome as CallOutcome};
+ghost use Rattle.art_change.specs.Calls.{Refuses, outcome_at};
+ghost use Rattle.art_change.specs.Made.{MakesStep};
+ghost use Rattle.art_change.specs.declared.outcomes.Outcome.{Outcome as CallOutcome};
 ghost use Rattle.art_table.specs.Calls.{HasEnded, IsUnderWay};
 ghost use Rattle.art_key.specs.Bounds.{is_before};
 ghost use Rattle.art_table.specs.Jobs.{IsRange, job_fault, result_of};
@@ -14,7 +14,7 @@ ghost use Rattle.art_table.specs.declared.passes.Pass.{Pass as PassOf};
 
 use crate::jobs::result_of;
 use crate::{Fault, Job, Outcome, Table};
-use art_call::{Caller, Made};
+use art_change::{Caller, Made};
 use art_key::{Bound, ValueFault, encode};
 
 /// The right to call a table, one call at a time, and what its calls need.

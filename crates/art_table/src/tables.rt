@@ -6,7 +6,7 @@ ghost use Rattle.art_table.specs.Sizes.{IsConfig};
 ghost use Rattle.art_table.specs.Tables.{AreOf, schema_in};
 
 use crate::{Config, OpenFault, Pass};
-use art_call::Caller;
+use art_change::Caller;
 use art_key::Schema;
 use art_model::NoMemory;
 use art_shared::Shared;

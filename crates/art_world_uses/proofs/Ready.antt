@@ -1,7 +1,7 @@
 -- A pass of a world that just opened may call, and the first is ready, and lent to its stepper.
 use Rattle.std.proofs.Common.{◌≡◌, ◌<◌, ℕ, List, sym, subst}
-use Rattle.art_call.specs.Calls.{IsCaller}
-use Rattle.art_call.specs.declared.callers.Caller.{Caller}
+use Rattle.art_change.specs.Calls.{IsCaller}
+use Rattle.art_change.specs.declared.callers.Caller.{Caller}
 use Rattle.art_change.proofs.Newcomers.{newcomer_at, newcomer_fresh}
 use Rattle.art_change.specs.Writes.{IsFresh, IsReady}
 use Rattle.art_epoch.specs.declared.limbo.Place.{Place}

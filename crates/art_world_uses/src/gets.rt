@@ -1,10 +1,10 @@
 //! Gets over a world of one thread.
-ghost use Rattle.art_call.specs.Calls.{IsCaller};
+ghost use Rattle.art_change.specs.Calls.{IsCaller};
 ghost use Rattle.art_world.specs.Stepper.{OnlyStepped, sizes_of, view_of};
 
 use crate::keys::key_of;
 use crate::worlds::{ONE_PASS, caller_of, opened};
-use art_call::Caller;
+use art_change::Caller;
 use art_look::Outcome;
 use art_world::Stepper;
 use std::process::Abort;

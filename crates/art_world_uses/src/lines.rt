@@ -1,7 +1,6 @@
 //! The steps of an insert, as lines of text.
 use art_cell::{Cell, Link, Pool};
-use art_machine::Action;
-use art_step::pool_of_layout;
+use art_step::{Action, pool_of_layout};
 use std::fmt::{self, Write};
 
 /// Writes what is asked, as one line.

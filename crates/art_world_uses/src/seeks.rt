@@ -1,12 +1,12 @@
 //! Gets and looks from their pin to their close, over a world of one thread.
 ghost use Rattle.std.specs.Prelude.{◌≤◌, length};
-ghost use Rattle.art_call.specs.Calls.{IsCaller};
+ghost use Rattle.art_change.specs.Calls.{IsCaller};
 ghost use Rattle.art_epoch.specs.Pins.{MayPin};
 ghost use Rattle.art_world.specs.Stepper.{OnlyStepped, sizes_of, view_of};
 
 use crate::keys::key_of;
 use crate::worlds::{caller_of, opened};
-use art_call::{Caller, Outcome};
+use art_change::{Caller, Outcome};
 use art_key::Bound;
 use art_look::{Aim, PathBuffer, Seek, Seen, Stepped, step};
 use art_step::{EpochSteps, Sizes};

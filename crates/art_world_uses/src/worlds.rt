@@ -1,10 +1,10 @@
 //! Worlds that just opened.
 ghost use Rattle.std.specs.Prelude.{◌<◌};
-ghost use Rattle.art_call.specs.Calls.{IsCaller};
+ghost use Rattle.art_change.specs.Calls.{IsCaller};
 ghost use Rattle.art_step.specs.WordRows.{view_at};
 ghost use Rattle.art_world.specs.Opening.{OpensAt};
 
-use art_call::Caller;
+use art_change::Caller;
 use art_step::Sizes;
 use art_world::World;
 use std::alloc::Global;

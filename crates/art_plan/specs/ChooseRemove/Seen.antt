@@ -1,7 +1,7 @@
 -- What has to be seen before a leaf goes.
 use Rattle.std.specs.Prelude.{◌≡◌, ℕ, List, Option, Some}
 use Rattle.art_cell.specs.declared.cells.Cell.TheVariants as cells
-use Rattle.art_machine.specs.Acting.{HasPath}
+use Rattle.art_step.specs.Acting.{HasPath}
 use Rattle.art_plan.specs.declared.choose_remove.Lower.{Lower}
 use Rattle.art_plan.specs.ChooseInsert.Seen.{WasSeen}
 use Rattle.art_plan.specs.ArtFind.ReadSets.{above_of, node_of}

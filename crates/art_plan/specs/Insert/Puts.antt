@@ -9,7 +9,7 @@ use Rattle.art_node.specs.Sizes.{larger}
 use Rattle.art_step.specs.declared.deeds.Act.TheVariants.{Insert}
 use Rattle.art_step.specs.declared.deeds.Deed.{Deed}
 use Rattle.art_step.specs.declared.deeds.Deed.TheVariants.{Done}
-use Rattle.art_machine.specs.declared.actions.Effects.{Effects}
+use Rattle.art_step.specs.declared.actions.Effects.{Effects}
 
 -- the node of four places with this number
 abbrev pub node4 : ℕ → Node

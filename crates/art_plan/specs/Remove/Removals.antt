@@ -16,7 +16,7 @@ use Rattle.art_plan.specs.declared.remove.OldLeaf.{OldLeaf}
 use Rattle.art_step.specs.declared.deeds.Act.TheVariants.{Remove}
 use Rattle.art_step.specs.declared.deeds.Deed.{Deed}
 use Rattle.art_step.specs.declared.deeds.Deed.TheVariants.{Done}
-use Rattle.art_machine.specs.declared.actions.Effects.{Effects}
+use Rattle.art_step.specs.declared.actions.Effects.{Effects}
 use Rattle.art_cell.specs.Children.{child_word}
 use Rattle.art_cell.specs.declared.cells.Link.TheVariants.{Leaf as leaf}
 

@@ -3,7 +3,7 @@ use Rattle.std.specs.Prelude.{Ok}
 use Rattle.art_attempt.proofs.LowerBegins.{begun_told}
 use Rattle.art_attempt.specs.Naming.{Fits}
 use Rattle.art_attempt.specs.declared.naming.Naming.TheVariants.{Check}
-use Rattle.art_machine.specs.declared.actions.Answer.TheVariants.{Begun}
+use Rattle.art_step.specs.declared.actions.Answer.TheVariants.{Begun}
 use Rattle.art_attempt.proofs.naming.begun.Goals as goal
 
 pub returns-in-Ok-clause-fits : goal.returns-in-Ok-clause-fits

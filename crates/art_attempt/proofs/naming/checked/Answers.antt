@@ -3,9 +3,9 @@ use Rattle.std.proofs.lemmas.Option.{same_Some}
 use Rattle.art_attempt.proofs.LowerBegins.{name_told}
 use Rattle.art_attempt.specs.declared.naming.Named.TheVariants.{Unchanged}
 use Rattle.art_attempt.specs.declared.naming.Naming.TheVariants.{Ended}
-use Rattle.art_machine.specs.Acting.{Answers, passed, telling}
-use Rattle.art_machine.specs.declared.actions.Action.{Action}
-use Rattle.art_machine.specs.declared.actions.Action.TheVariants as action
+use Rattle.art_step.specs.Acting.{Answers, passed, telling}
+use Rattle.art_step.specs.declared.actions.Action.{Action}
+use Rattle.art_step.specs.declared.actions.Action.TheVariants as action
 use Rattle.art_attempt.proofs.naming.checked.Goals as goal
 
 pub returns-then-passed-clause-fits : goal.returns-then-passed-clause-fits

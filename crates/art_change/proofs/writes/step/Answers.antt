@@ -3,7 +3,7 @@ use Rattle.art_change.proofs.Overlaps.{finds_overlap, never_overlaps}
 use Rattle.art_change.proofs.Steps.{write_few}
 use Rattle.art_change.proofs.writes.step.Goals as goal
 use Rattle.art_change.specs.Writes.{FindsOverlap, outcome_in, overlaps_by}
-use Rattle.art_change.specs.declared.writes.Outcome.TheVariants.{Overlaps}
+use Rattle.art_change.specs.declared.writes.WriteOutcome.TheVariants.{Overlaps}
 use Rattle.art_epoch.specs.Limbo.{places_of}
 use Rattle.art_step.specs.Histories.{AreApart}
 

@@ -1,7 +1,7 @@
 -- The step is that of the machine.
 use Rattle.std.proofs.Common.{◌∙◌, subst, sym}
 use Rattle.std.specs.Prelude.{None}
-use Rattle.art_machine.specs.Acting.{Answers}
+use Rattle.art_step.specs.Acting.{Answers}
 use Rattle.art_step.specs.declared.views.Sizes.{Sizes}
 use Rattle.art_epoch.proofs.enter.pin.Goals as goal
 

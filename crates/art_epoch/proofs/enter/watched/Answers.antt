@@ -8,9 +8,9 @@ use Rattle.art_epoch.specs.Reclaiming.{HearsWord, asks_at, watches_at}
 use Rattle.art_epoch.specs.declared.limbo.Place.{Place}
 use Rattle.art_epoch.specs.declared.limbo.ReclaimStage.{ReclaimStage}
 use Rattle.art_epoch.specs.declared.limbo.ReclaimStage.TheVariants.{Freeing, Noting, Raising, Watching}
-use Rattle.art_machine.specs.Acting.{word_in}
-use Rattle.art_machine.specs.declared.actions.Action.{Action}
-use Rattle.art_machine.specs.declared.actions.Action.TheVariants.{Free}
+use Rattle.art_step.specs.Acting.{word_in}
+use Rattle.art_step.specs.declared.actions.Action.{Action}
+use Rattle.art_step.specs.declared.actions.Action.TheVariants.{Free}
 use Rattle.art_epoch.proofs.enter.watched.Goals as goal
 
 -- the step that is asked for finds the word of a pass just where it is at one

@@ -1,7 +1,7 @@
 -- The steps are those of the machine.
 use Rattle.std.proofs.Common.{◌≡◌, ◌<◌, ◌∙◌, ℕ, ap, arith, refl, subst, sym}
 use Rattle.std.specs.Prelude.{None}
-use Rattle.art_machine.specs.Acting.{Answers}
+use Rattle.art_step.specs.Acting.{Answers}
 use Rattle.art_epoch.specs.Limbo.{places_of}
 use Rattle.art_step.specs.declared.views.Sizes.{Sizes}
 use Rattle.art_epoch.proofs.Reclaimed.{only_reclaims, reclaim_steps}

@@ -1,7 +1,7 @@
 -- The steps are those of the machine.
 use Rattle.std.proofs.Common.{◌∙◌, ◌+◌, ℕ, ap, refl, sym, subst}
 use Rattle.std.specs.Prelude.{None}
-use Rattle.art_machine.specs.Acting.{Answers, IsAllowed}
+use Rattle.art_step.specs.Acting.{Answers, IsAllowed}
 use Rattle.art_cell.specs.declared.cells.Pool.{Pool}
 use Rattle.art_epoch.proofs.Searching.{few_looks}
 use Rattle.art_epoch.specs.Taking.{Fits, MadeFew, Takes}

@@ -1,7 +1,7 @@
 -- A look that settles nothing needs no effects.
 use Rattle.std.specs.Prelude.{⊤}
-use Rattle.art_machine.proofs.AnswerKinds.{answers_any}
-use Rattle.art_machine.specs.Acting.{telling}
+use Rattle.art_step.proofs.AnswerKinds.{answers_any}
+use Rattle.art_step.specs.Acting.{telling}
 use Rattle.art_find.proofs.Looks.{allowed_look}
 use Rattle.art_find.proofs.driver.look.Goals as goal
 

@@ -2,10 +2,10 @@
 use Rattle.std.proofs.Common.{◌∙◌, Some, inl, inr, sym, ap, subst}
 use Rattle.art_find.proofs.Looks.{allowed_look}
 use Rattle.art_find.specs.Findings.{IsToSettle}
-use Rattle.art_machine.specs.Acting.{IsAllowed, telling, tells}
-use Rattle.art_machine.specs.declared.actions.Action.{Action}
-use Rattle.art_machine.specs.declared.actions.Action.TheVariants.{Settle}
-use Rattle.art_machine.specs.declared.actions.Effects.{Effects}
+use Rattle.art_step.specs.Acting.{IsAllowed, telling, tells}
+use Rattle.art_step.specs.declared.actions.Action.{Action}
+use Rattle.art_step.specs.declared.actions.Action.TheVariants.{Settle}
+use Rattle.art_step.specs.declared.actions.Effects.{Effects}
 use Rattle.art_look.proofs.Walking.{may_settle}
 use Rattle.art_look.proofs.driver.make.Goals as goal
 use Rattle.art_look.specs.Asking.{MaySeek}

@@ -1,7 +1,7 @@
 use Rattle.std.proofs.Common.{◌∙◌, sym, ap, subst}
 use Rattle.std.specs.Prelude.{IfSome, Option}
-use Rattle.art_machine.specs.Acting.{Answers, telling}
-use Rattle.art_machine.specs.declared.actions.Action.{Action}
+use Rattle.art_step.specs.Acting.{Answers, telling}
+use Rattle.art_step.specs.declared.actions.Action.{Action}
 use Rattle.art_look.specs.declared.walks.Walk.{Walk}
 use Rattle.art_look.proofs.Parts.{counts_at}
 use Rattle.art_look.proofs.Told.{seek_adds}

@@ -1,7 +1,7 @@
 -- Each cell is the one that was asked for.
 use Rattle.std.proofs.Common.{refl}
 use Rattle.art_cell.specs.declared.cells.Cell.TheVariants as cell
-use Rattle.art_machine.specs.declared.actions.Action.TheVariants.{Begin, Check}
+use Rattle.art_step.specs.declared.actions.Action.TheVariants.{Begin, Check}
 use Rattle.art_look.specs.declared.looks.LookStage.TheVariants.{Start, Below, Child, Both}
 use Rattle.art_look.proofs.Going.{may_go}
 use Rattle.art_look.proofs.straight.begin_or_check.Goals as goal

@@ -1,7 +1,7 @@
 use Rattle.std.proofs.Common.{◌∙◌, true, false, refl, ap, subst, arith}
 use Rattle.std.specs.Prelude.{Result, Ok, Err}
-use Rattle.art_machine.specs.declared.actions.Answer.TheVariants.{Begun}
-use Rattle.art_machine.specs.declared.actions.Action.TheVariants.{Begin}
+use Rattle.art_step.specs.declared.actions.Answer.TheVariants.{Begun}
+use Rattle.art_step.specs.declared.actions.Action.TheVariants.{Begin}
 use Rattle.art_find.specs.declared.straight.Tally.{Tally}
 use Rattle.art_look.specs.Looks.{asks}
 use Rattle.art_look.specs.declared.looks.LookStage.{LookStage}

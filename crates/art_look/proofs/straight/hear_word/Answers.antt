@@ -1,5 +1,5 @@
 use Rattle.std.proofs.Common.{◌∙◌, true, refl, ap, arith}
-use Rattle.art_machine.specs.declared.actions.Answer.TheVariants.{Word}
+use Rattle.art_step.specs.declared.actions.Answer.TheVariants.{Word}
 use Rattle.art_look.specs.Looks.{asks, deed_at}
 use Rattle.art_look.specs.declared.looks.LookStage.{LookStage}
 use Rattle.art_look.proofs.Going.{asks_look, has_gone}

@@ -1,7 +1,7 @@
 -- Each word is the one that was asked for.
 use Rattle.std.proofs.Common.{ℕ, ◌+◌, None, refl, sym, subst}
-use Rattle.art_machine.specs.Acting.{IsAllowed}
-use Rattle.art_machine.specs.declared.actions.Action.TheVariants.{Read}
+use Rattle.art_step.specs.Acting.{IsAllowed}
+use Rattle.art_step.specs.declared.actions.Action.TheVariants.{Read}
 use Rattle.art_look.specs.declared.looks.LookStage.TheVariants.{Anchor, Header, Prefix, Keys, Slot}
 use Rattle.art_look.proofs.Going.{may_go}
 use Rattle.art_step.specs.Steps.Read as read

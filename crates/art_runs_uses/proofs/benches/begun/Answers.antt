@@ -1,4 +1,4 @@
-use Rattle.art_runs.specs.ArtCall.Calls.{Insert, Remove}
+use Rattle.art_runs.specs.ArtChange.Calls.{Insert, Remove}
 use Rattle.art_runs_uses.proofs.benches.begun.Goals as goal
 
 pub returns-in-Insert : goal.returns-in-Insert

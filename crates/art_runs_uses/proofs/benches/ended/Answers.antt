@@ -1,6 +1,6 @@
 use Rattle.std.proofs.Common.{subst, sym}
-use Rattle.art_runs.specs.ArtCall.Calls.{IsCaller}
-use Rattle.art_runs.specs.ArtCall.declared.callers.Caller.{Caller}
+use Rattle.art_runs.specs.ArtChange.Calls.{IsCaller}
+use Rattle.art_runs.specs.ArtChange.declared.callers.Caller.{Caller}
 use Rattle.art_runs_uses.proofs.benches.ended.Goals as goal
 
 pub returns-in-Some-clause-ended : goal.returns-in-Some-clause-ended

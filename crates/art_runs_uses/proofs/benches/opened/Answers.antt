@@ -1,6 +1,6 @@
 use Rattle.std.proofs.Common.{◌≡◌, ◌++◌, ◌∙◌, ◌+◌, ◌<◌, List, [], ◌∷◌, Some, ap, arith, length, rules, slice_get, subst}
 use Rattle.std.proofs.lemmas.List.{length-append}
-use Rattle.art_runs.specs.ArtCall.declared.callers.Caller.{Caller}
+use Rattle.art_runs.specs.ArtChange.declared.callers.Caller.{Caller}
 use Rattle.art_runs.specs.declared.ops.Op.{Op}
 use Rattle.art_runs_uses.proofs.Ops.{first_more}
 use Rattle.art_runs_uses.proofs.benches.opened.Goals as goal

@@ -1,5 +1,5 @@
 use Rattle.std.proofs.Common.{◌<◌, ap, subst}
-use Rattle.art_call.specs.Calls.{IsCaller, IsFresh}
+use Rattle.art_change.specs.Calls.{IsCaller, IsFresh}
 use Rattle.art_shared.specs.declared.law.Basis.{Basis}
 use Rattle.art_shared_uses.proofs.New.{writes_new}
 use Rattle.art_shared_uses.proofs.clients.caller_of.Goals as goal

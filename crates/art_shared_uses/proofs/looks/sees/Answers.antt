@@ -8,5 +8,5 @@ pub returns : goal.returns
 returns c =
     let t = c.args.shared.now in
     let at = c.at-stepper.ensures in
-    subst (λ (a : Pass). Writes t a c.look.new.self) (search rules)
-    (writes_still t c.args.pass.now c.at-stepper.result c.look.new.steps c.requires.of at.pass at.basis c.look.ensures.only c.look.new.self c.look.ensures.called.1.caller)
+    subst (λ (a : Pass). Writes t a c.look-reached.new.self) (search rules)
+    (writes_still t c.args.pass.now c.at-stepper.result c.look-reached.new.steps c.requires.of at.pass at.basis c.look-reached.ensures.only c.look-reached.new.self c.look-reached.ensures.called.1.caller)

@@ -1,6 +1,6 @@
 use Rattle.std.proofs.Common.{None, refl}
-use Rattle.art_call.specs.Calls as calls
-use Rattle.art_call.specs.Outcomes.{of_seek}
+use Rattle.art_change.specs.Calls as calls
+use Rattle.art_change.specs.Outcomes.{of_seek}
 use Rattle.art_table.proofs.AtOnce.{get_apart, key_admitted, lent_caller, tuple_ends}
 use Rattle.art_table.proofs.calls.get.Goals as goal
 use Rattle.art_table.specs.Jobs.{of_got, with_result}

@@ -1,6 +1,6 @@
 use Rattle.std.proofs.Common.{refl}
-use Rattle.art_call.specs.Calls as calls
-use Rattle.art_call.specs.Outcomes.{of_write}
+use Rattle.art_change.specs.Calls as calls
+use Rattle.art_change.specs.Outcomes.{of_write}
 use Rattle.art_shared.specs.Stepper.{schema_of}
 use Rattle.art_table.proofs.AtOnce.{key_admitted, lent_caller, tuple_ends, write_apart}
 use Rattle.art_typed.proofs.Keys.{keys_apart}

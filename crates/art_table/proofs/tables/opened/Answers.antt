@@ -1,6 +1,6 @@
 use Rattle.std.proofs.Common.{rules, ◌≡◌, ◌++◌, ◌∙◌, List, [], ◌∷◌, length, ⊎_elim, append-nil, ap, refl, subst, sym}
-use Rattle.art_call.specs.Calls.{IsCaller, IsFresh}
-use Rattle.art_call.specs.declared.callers.Caller.{Caller}
+use Rattle.art_change.specs.Calls.{IsCaller, IsFresh}
+use Rattle.art_change.specs.declared.callers.Caller.{Caller}
 use Rattle.art_shared.specs.declared.pass.Pass.{Pass as Seat}
 use Rattle.art_step.specs.Views.{Member}
 use Rattle.art_table.proofs.Opened.{HasCaller, one_more, opens}

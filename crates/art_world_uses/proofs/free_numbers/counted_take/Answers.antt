@@ -1,7 +1,7 @@
 -- The steps are those of the machine.
 use Rattle.std.proofs.Common.{◌∙◌, None, refl, sym, subst}
 use Rattle.art_epoch.specs.Taking.{Fits}
-use Rattle.art_machine.specs.Acting.{Answers, IsAllowed}
+use Rattle.art_step.specs.Acting.{Answers, IsAllowed}
 use Rattle.art_step.specs.declared.views.Sizes.{Sizes}
 use Rattle.art_world_uses.proofs.free_numbers.counted_take.Goals as goal
 

@@ -1,5 +1,5 @@
 use Rattle.std.proofs.Common.{sym, subst}
-use Rattle.art_call.specs.Calls.{IsCaller}
+use Rattle.art_change.specs.Calls.{IsCaller}
 use Rattle.art_step.specs.declared.views.Sizes.{Sizes}
 use Rattle.art_world.specs.Stepper.{only_sizes, view_of}
 use Rattle.art_world_uses.proofs.gets.check_get.Goals as goal

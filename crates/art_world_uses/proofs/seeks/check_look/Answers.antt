@@ -1,5 +1,5 @@
 use Rattle.std.proofs.Common.{sym, subst}
-use Rattle.art_call.specs.Calls.{Look, IsCaller}
+use Rattle.art_change.specs.Calls.{Look, IsCaller}
 use Rattle.art_key.specs.declared.bounds.Bound.TheVariants.{End}
 use Rattle.art_step.specs.declared.views.Sizes.{Sizes}
 use Rattle.art_world.specs.Stepper.{only_sizes, sizes_of, view_of}

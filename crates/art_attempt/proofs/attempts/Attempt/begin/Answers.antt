@@ -1,7 +1,7 @@
 use Rattle.std.proofs.Common.{ap}
 use Rattle.art_attempt.proofs.Tries.{later_first}
 use Rattle.art_attempt.proofs.attempts.Attempt.begin.Goals as goal
-use Rattle.art_make.specs.Apply.{is_begun}
+use Rattle.art_plan.specs.Apply.{is_begun}
 use Rattle.art_plan.proofs.Renewing.{plain_whole}
 
 pub returns-clause-fits : goal.returns-clause-fits

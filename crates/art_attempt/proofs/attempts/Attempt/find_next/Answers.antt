@@ -5,7 +5,7 @@ use Rattle.art_attempt.proofs.Given.{look_may}
 use Rattle.art_attempt.proofs.attempts.Attempt.find_next.Goals as goal
 use Rattle.art_attempt.specs.Asking.{IsAllowed}
 use Rattle.art_attempt.specs.Attempts.{deed_by}
-use Rattle.art_machine.specs.declared.actions.Action.{Action}
+use Rattle.art_step.specs.declared.actions.Action.{Action}
 
 pub returns-clause-going : goal.returns-clause-going
 returns-clause-going c z u v r f = let k = finding_going c.args.self.now.job c.args.finding.now f.going in (k.0, c.finding_asked.ensures ∙ k.1)

@@ -3,9 +3,9 @@ use Rattle.art_attempt.proofs.attempts.Attempt.find_told.Goals as goal
 use Rattle.art_attempt.proofs.Finds.{at_place}
 use Rattle.art_attempt.proofs.Stages.{asked_finding, is_finding, told_finding}
 use Rattle.art_attempt.specs.Attempts.{StandsAt, deed_by}
-use Rattle.art_machine.specs.Acting.{Answers, telling}
+use Rattle.art_step.specs.Acting.{Answers, telling}
 use Rattle.art_find.specs.Descents.{asks}
-use Rattle.art_machine.specs.declared.actions.Action.{Action}
+use Rattle.art_step.specs.declared.actions.Action.{Action}
 
 pub settled-requires-clause-told : goal.settled-requires-clause-told
 settled-requires-clause-told c =

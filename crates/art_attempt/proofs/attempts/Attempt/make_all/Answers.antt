@@ -10,8 +10,8 @@ use Rattle.art_attempt.specs.Attempts.{apply_left, ending_at, ended_so, left_at,
 use Rattle.art_attempt.specs.declared.attempts.Ending.{Ending}
 use Rattle.art_attempt.specs.declared.attempts.Ending.TheVariants.{Overlaps}
 use Rattle.art_attempt.specs.declared.attempts.Stage.{Stage}
-use Rattle.art_make.specs.Apply.{is_begun}
-use Rattle.art_make.specs.Apply as apply
+use Rattle.art_plan.specs.Apply.{is_begun}
+use Rattle.art_plan.specs.Apply as apply
 use Rattle.art_step.specs.Deeds.{IsAdmitted}
 use Rattle.art_step.specs.declared.deeds.Deed.{Deed}
 use Rattle.art_step.specs.declared.faults.UpgradeFault.{UpgradeFault}

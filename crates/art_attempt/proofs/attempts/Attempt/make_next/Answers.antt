@@ -1,11 +1,11 @@
 use Rattle.std.proofs.Common.{◌≡◌, ◌∙◌, sym, refl, Option, Some, None}
 use Rattle.std.specs.Prelude.{IfSome}
 use Rattle.art_attempt.proofs.Given.{made_may}
-use Rattle.art_make.proofs.Keeping.{asks_made}
+use Rattle.art_plan.proofs.Keeping.{asks_made}
 use Rattle.art_attempt.proofs.attempts.Attempt.make_next.Goals as goal
 use Rattle.art_attempt.specs.Asking.{IsAllowed}
-use Rattle.art_machine.specs.declared.actions.Action.{Action}
-use Rattle.art_make.proofs.Told.{allowed}
+use Rattle.art_step.specs.declared.actions.Action.{Action}
+use Rattle.art_plan.proofs.Told.{allowed}
 
 pub returns-clause-allowed : goal.returns-clause-allowed
 returns-clause-allowed c z u v d h = by_answer c.next.result refl

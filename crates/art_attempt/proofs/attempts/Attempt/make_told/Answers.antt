@@ -6,14 +6,14 @@ use Rattle.art_attempt.proofs.Left.{anew_fault, by_end, ended_less, fault_ended,
 use Rattle.art_attempt.proofs.Looks.{begun_none}
 use Rattle.art_attempt.proofs.Overlaps.{made_apart}
 use Rattle.art_attempt.proofs.attempts.Attempt.make_told.Goals as goal
-use Rattle.art_machine.specs.Acting.{steps_in}
+use Rattle.art_step.specs.Acting.{steps_in}
 use Rattle.art_attempt.specs.Attempts.{apply_left, ending_at, ended_so, free_at, left_at}
 use Rattle.art_attempt.specs.declared.attempts.Ending.{Ending}
 use Rattle.art_attempt.specs.declared.attempts.Ending.TheVariants.{Restart, Overlaps}
 use Rattle.art_attempt.specs.declared.attempts.Stage.{Stage as StageOf}
-use Rattle.art_make.proofs.Keeping.{answer_keeps}
-use Rattle.art_make.proofs.Told.{few_steps}
-use Rattle.art_make.specs.Apply.{fault_of}
+use Rattle.art_plan.proofs.Keeping.{answer_keeps}
+use Rattle.art_plan.proofs.Told.{few_steps}
+use Rattle.art_plan.specs.Apply.{fault_of}
 use Rattle.art_step.specs.declared.faults.UpgradeFault.{UpgradeFault}
 use Rattle.art_step.specs.declared.faults.UpgradeFault.TheVariants.{Changed}
 

@@ -11,9 +11,9 @@ use Rattle.art_attempt.proofs.Asked.{naming_asks_look}
 use Rattle.art_attempt.specs.declared.naming.Naming.{Naming}
 use Rattle.art_find.specs.Asking.{MayLook}
 use Rattle.art_find.specs.declared.findings.Position.{Position}
-use Rattle.art_machine.proofs.Counting.{look_counts}
-use Rattle.art_machine.specs.Acting.{Answers, telling}
-use Rattle.art_machine.specs.declared.actions.Action.{Action}
+use Rattle.art_step.proofs.Counting.{look_counts}
+use Rattle.art_step.specs.Acting.{Answers, telling}
+use Rattle.art_step.specs.declared.actions.Action.{Action}
 use Rattle.art_step.specs.declared.views.Sizes.{Sizes}
 use Rattle.art_step.specs.declared.views.View.{View}
 use Rattle.art_attempt.proofs.attempts.Attempt.name_all.Goals as goal

@@ -7,7 +7,7 @@ use Rattle.art_attempt.specs.Rooms.{number_for}
 use Rattle.art_attempt.specs.declared.attempts.Job.{Job}
 use Rattle.art_attempt.specs.declared.attempts.Case.TheVariants.{NewLeaf}
 use Rattle.art_attempt.specs.declared.attempts.Room.{Room}
-use Rattle.art_machine.specs.declared.actions.Effects.{Effects}
+use Rattle.art_step.specs.declared.actions.Effects.{Effects}
 use Rattle.art_plan.specs.ChooseInsert.Plans.{HasNeeded}
 use Rattle.art_plan.specs.declared.choose_insert.Needs.{Needs}
 

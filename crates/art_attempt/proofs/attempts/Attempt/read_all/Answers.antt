@@ -9,8 +9,8 @@ use Rattle.art_attempt.specs.declared.attempts.Part.TheVariants as parts
 use Rattle.art_attempt.specs.declared.attempts.Stage.TheVariants as stages
 use Rattle.art_attempt.proofs.Asked.{reads_look}
 use Rattle.art_find.specs.Asking.{MayLook}
-use Rattle.art_machine.proofs.Counting.{look_counts}
-use Rattle.art_machine.specs.Acting.{Answers, telling}
+use Rattle.art_step.proofs.Counting.{look_counts}
+use Rattle.art_step.specs.Acting.{Answers, telling}
 use Rattle.art_step.specs.declared.views.Sizes.{Sizes}
 use Rattle.art_step.specs.declared.views.View.{View}
 use Rattle.art_attempt.proofs.attempts.Attempt.read_all.Goals as goal

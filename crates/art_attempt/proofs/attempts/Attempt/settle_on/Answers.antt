@@ -3,9 +3,9 @@ use Rattle.std.proofs.Common.{◌∙◌, Some, sym, ap, subst, arith}
 use Rattle.art_attempt.proofs.Finds.{asks_check, check_look, finding_allowed, may_look}
 use Rattle.art_attempt.proofs.Stages.{is_finding}
 use Rattle.art_attempt.specs.Attempts.{StandsAt, deed_by, settles}
-use Rattle.art_machine.proofs.Counting.{look_counts}
-use Rattle.art_machine.specs.Acting.{Answers, IsLook, telling}
-use Rattle.art_machine.specs.declared.actions.Action.{Action}
+use Rattle.art_step.proofs.Counting.{look_counts}
+use Rattle.art_step.specs.Acting.{Answers, IsLook, telling}
+use Rattle.art_step.specs.declared.actions.Action.{Action}
 use Rattle.art_attempt.proofs.attempts.Attempt.settle_on.Goals as goal
 
 pub look-requires : goal.look-requires

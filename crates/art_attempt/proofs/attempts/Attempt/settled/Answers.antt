@@ -10,8 +10,8 @@ use Rattle.art_find.specs.declared.findings.Finding.{Finding}
 use Rattle.art_attempt.specs.declared.attempts.Room.{Room}
 use Rattle.art_find.specs.Findings.{position_at}
 use Rattle.art_find.specs.declared.findings.Position.{Position}
-use Rattle.art_machine.specs.Acting.{Answers, passed, telling}
-use Rattle.art_machine.specs.declared.actions.Answer.{Answer}
+use Rattle.art_step.specs.Acting.{Answers, passed, telling}
+use Rattle.art_step.specs.declared.actions.Answer.{Answer}
 use Rattle.art_step.specs.declared.views.Sizes.{Sizes}
 use Rattle.art_step.specs.declared.views.View.{View}
 use Rattle.std.specs.Prelude.{true, Some}

@@ -6,8 +6,8 @@ use Rattle.art_attempt.proofs.attempts.Attempt.supply_next.Goals as goal
 use Rattle.art_attempt.specs.Asking.{IsAllowed}
 use Rattle.art_attempt.specs.Cases.{demand_of}
 use Rattle.art_attempt.specs.Reserve.{Fits as SupplyFits, asks}
-use Rattle.art_machine.specs.declared.actions.Action.{Action}
-use Rattle.art_machine.specs.Acting as acting
+use Rattle.art_step.specs.declared.actions.Action.{Action}
+use Rattle.art_step.specs.Acting as acting
 
 pub returns-clause-allowed : goal.returns-clause-allowed
 returns-clause-allowed c z u v t k d h = by_answer c.next.result refl

@@ -2,7 +2,7 @@ use Rattle.std.proofs.Common.{◌≡◌, ◌∙◌, ◌-◌, ◌<◌, Some, ap, 
 use Rattle.art_attempt.proofs.Given.{ask_looks, look_once, look_row, made_row}
 use Rattle.art_attempt.proofs.OneStep.{part_once}
 use Rattle.art_attempt.proofs.Stages.{asked_finding, is_finding}
-use Rattle.art_make.proofs.Keeping.{asks_made}
+use Rattle.art_plan.proofs.Keeping.{asks_made}
 use Rattle.art_attempt.specs.Asking.{given}
 use Rattle.art_attempt.proofs.Finds.{finding_allowed}
 use Rattle.art_attempt.proofs.Left.{free_less}
@@ -13,8 +13,8 @@ use Rattle.art_attempt.specs.declared.attempts.Stage.{Stage as StageOf}
 use Rattle.art_attempt.specs.declared.attempts.Stage.TheVariants as stages
 use Rattle.art_attempt.specs.declared.attempts.Room.{Room}
 use Rattle.art_find.specs.declared.findings.Finding.{Finding}
-use Rattle.art_machine.specs.Acting.{IsLook, steps_in}
-use Rattle.art_machine.specs.declared.actions.Action.{Action}
+use Rattle.art_step.specs.Acting.{IsLook, steps_in}
+use Rattle.art_step.specs.declared.actions.Action.{Action}
 use Rattle.art_step.specs.declared.views.Sizes.{Sizes}
 use Rattle.art_step.specs.declared.views.View.{View}
 

@@ -6,8 +6,8 @@ use Rattle.art_attempt.proofs.Reserves.{asks_next, asks_word, next_row, one_writ
 use Rattle.art_attempt.specs.Reserve.{Fits}
 use Rattle.art_attempt.specs.declared.reserve.Reserve.TheVariants.{LeafWriter as packed}
 use Rattle.art_attempt.specs.declared.reserve.Demand.{Demand}
-use Rattle.art_epoch.specs.ArtMake.LeafWriter.{word_asked}
-use Rattle.art_machine.specs.Acting.{Answers}
+use Rattle.art_epoch.specs.LeafWriter.{word_asked}
+use Rattle.art_step.specs.Acting.{Answers}
 use Rattle.art_step.specs.declared.views.Sizes.{Sizes}
 use Rattle.art_step.specs.declared.views.View.{View}
 use Rattle.art_attempt.proofs.reserve.Reserve.pack_on.Goals as goal

@@ -3,7 +3,7 @@ use Rattle.std.proofs.Common.{◌≡◌}
 use Rattle.art_attempt.specs.Reserve.{Fits}
 use Rattle.art_attempt.specs.declared.reserve.Reserve.TheVariants.{LeafWriter}
 use Rattle.art_attempt.specs.declared.reserve.Demand.{Demand}
-use Rattle.art_machine.specs.Turns.{Spends}
+use Rattle.art_step.specs.Turns.{Spends}
 use Rattle.art_step.specs.declared.views.View.{View}
 use Rattle.art_attempt.proofs.reserve.Reserve.pack_on.Given as goal
 

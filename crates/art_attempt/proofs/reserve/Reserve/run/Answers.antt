@@ -7,7 +7,7 @@ use Rattle.art_attempt.specs.Reserve.{Fits, asks, ended_at}
 use Rattle.art_attempt.specs.declared.reserve.Demand.{Demand}
 use Rattle.art_attempt.specs.declared.reserve.Reserve.{Reserve}
 use Rattle.art_attempt.specs.declared.reserve.Reserved.{Reserved}
-use Rattle.art_machine.specs.Acting.{Answers, IsAllowed}
+use Rattle.art_step.specs.Acting.{Answers, IsAllowed}
 use Rattle.art_step.specs.declared.views.Sizes.{Sizes}
 use Rattle.art_step.specs.declared.views.View.{View}
 use Rattle.art_attempt.proofs.reserve.Reserve.run.Goals as goal

@@ -1,7 +1,7 @@
 -- So far numbers come in, and words of the leaf are written.
 use Rattle.std.proofs.Common.{◌≡◌}
 use Rattle.art_attempt.specs.Reserve.{Fits, HasLeafWords}
-use Rattle.art_machine.specs.Turns.{Spends}
+use Rattle.art_step.specs.Turns.{Spends}
 use Rattle.art_step.specs.declared.views.View.{View}
 use Rattle.art_attempt.proofs.reserve.Reserve.run.Given as goal
 

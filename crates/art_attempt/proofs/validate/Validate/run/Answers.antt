@@ -6,7 +6,7 @@ use Rattle.art_attempt.proofs.Validates.{node_then}
 use Rattle.art_attempt.specs.Validate.{Fits}
 use Rattle.art_attempt.specs.declared.validate.Validate.{Validate}
 use Rattle.art_attempt.specs.declared.validate.Validate.TheVariants.{Read}
-use Rattle.art_machine.specs.Acting.{Answers, telling}
+use Rattle.art_step.specs.Acting.{Answers, telling}
 use Rattle.art_step.specs.declared.deeds.Deed.{Deed}
 use Rattle.art_step.specs.declared.views.Sizes.{Sizes}
 use Rattle.art_step.specs.declared.views.View.{View}

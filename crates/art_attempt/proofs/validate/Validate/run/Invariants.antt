@@ -2,7 +2,7 @@
 use Rattle.std.proofs.Common.{◌≡◌, ◌+◌, List, ℕ}
 use Rattle.art_attempt.specs.Reserve.{StayFound}
 use Rattle.art_attempt.specs.Validate.{Fits, NodeStays, steps_left}
-use Rattle.art_machine.specs.Turns.{Spends}
+use Rattle.art_step.specs.Turns.{Spends}
 use Rattle.art_step.specs.declared.views.View.{View}
 use Rattle.art_attempt.proofs.validate.Validate.run.Given as goal
 

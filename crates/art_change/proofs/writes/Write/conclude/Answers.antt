@@ -2,8 +2,8 @@ use Rattle.std.proofs.Common.{◌∙◌, inl, inr, sym, arith}
 use Rattle.art_change.proofs.Frames.{anew_ends, anew_left, begun_again, none_anew, outcome_ends}
 use Rattle.art_change.proofs.Overlaps.{outcome_overlaps}
 use Rattle.std.proofs.lemmas.Option.{same_Some}
-use Rattle.art_change.specs.declared.writes.Outcome.{Outcome}
-use Rattle.art_change.specs.declared.writes.Outcome.TheVariants.{Overlaps}
+use Rattle.art_change.specs.declared.writes.WriteOutcome.{WriteOutcome as Outcome}
+use Rattle.art_change.specs.declared.writes.WriteOutcome.TheVariants.{Overlaps}
 use Rattle.art_change.proofs.writes.Write.conclude.Goals as goal
 
 pub returns-in-Some-clause-fits : goal.returns-in-Some-clause-fits

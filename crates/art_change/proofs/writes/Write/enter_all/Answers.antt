@@ -9,7 +9,7 @@ use Rattle.art_change.specs.declared.writes.Stage.TheVariants.{Enter}
 use Rattle.art_attempt.specs.Attempts.{IsRoom}
 use Rattle.art_attempt.specs.declared.attempts.Room.{Room}
 use Rattle.art_epoch.specs.Limbo.{places_of}
-use Rattle.art_machine.specs.Acting.{Answers, IsAllowed}
+use Rattle.art_step.specs.Acting.{Answers, IsAllowed}
 use Rattle.art_step.specs.declared.views.Sizes.{Sizes}
 
 pub loop-asked-init : goal.loop-asked-init

@@ -12,7 +12,7 @@ use Rattle.art_epoch.specs.Exit.{ExitFits}
 use Rattle.art_epoch.specs.Limbo.{places_of}
 use Rattle.art_epoch.specs.declared.exit.Exit.{Exit as ExitOf}
 use Rattle.art_epoch.specs.declared.exit.Exit.TheVariants.{Ended as closed}
-use Rattle.art_machine.specs.Acting.{Answers, IsAllowed}
+use Rattle.art_step.specs.Acting.{Answers, IsAllowed}
 use Rattle.art_step.specs.Tokens.{links_of}
 use Rattle.art_step.specs.declared.views.Sizes.{Sizes}
 

@@ -7,7 +7,7 @@ use Rattle.art_change.specs.Writes.{asks_at, brings_at, gone_by}
 use Rattle.art_change.specs.declared.writes.Stage.{Stage as StageOf}
 use Rattle.art_change.specs.declared.writes.Stage.TheVariants as stages
 use Rattle.art_epoch.specs.Limbo.{places_of}
-use Rattle.art_machine.specs.Acting.{IsAllowed}
+use Rattle.art_step.specs.Acting.{IsAllowed}
 use Rattle.art_step.specs.Tokens.{links_of}
 
 pub returns-in-Enter-clause-asks : goal.returns-in-Enter-clause-asks

@@ -3,7 +3,7 @@ use Rattle.std.proofs.Common.{⊎_elim, refl, arith, ◌<◌, ◌≤◌}
 use Rattle.std.proofs.lemmas.Bool.{cases_lt}
 use Rattle.std.specs.Prelude.{[], length}
 use Rattle.art_epoch.specs.Limbo.{places_of}
-use Rattle.art_machine.specs.declared.actions.Action.TheVariants.{ReadEpoch}
+use Rattle.art_step.specs.declared.actions.Action.TheVariants.{ReadEpoch}
 use Rattle.art_epoch.proofs.Blocking.{none_stays}
 use Rattle.art_epoch.proofs.Opens.{noting_left}
 use Rattle.art_epoch.proofs.enter.Enter.new.Goals as goal

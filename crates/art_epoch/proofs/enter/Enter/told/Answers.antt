@@ -5,7 +5,7 @@ use Rattle.art_epoch.specs.Limbo.{places_of}
 use Rattle.art_epoch.specs.declared.limbo.Place.{Place}
 use Rattle.art_epoch.specs.Reclaiming as reclaims
 use Rattle.art_epoch.proofs.Reclaimed.{steps_fewer}
-use Rattle.art_machine.specs.Acting.{word_in}
+use Rattle.art_step.specs.Acting.{word_in}
 use Rattle.art_epoch.specs.Enter.{EnterFits, asks, reclaimed, steps_left}
 use Rattle.art_epoch.specs.declared.enter.Enter.{Enter}
 use Rattle.art_epoch.proofs.Opens.{fewer_reclaiming, told_pinning, told_reclaiming}

@@ -1,9 +1,9 @@
 -- The first number in hand may go back, and the pass may go idle where there is none.
 use Rattle.std.proofs.Common.{◌∙◌, None, refl, subst, sym}
 use Rattle.std.proofs.lemmas.Option.{same_Some}
-use Rattle.art_machine.specs.Acting.{IsAllowed}
-use Rattle.art_machine.specs.declared.actions.Action.{Action}
-use Rattle.art_machine.specs.declared.actions.Action.TheVariants.{GiveBack}
+use Rattle.art_step.specs.Acting.{IsAllowed}
+use Rattle.art_step.specs.declared.actions.Action.{Action}
+use Rattle.art_step.specs.declared.actions.Action.TheVariants.{GiveBack}
 use Rattle.art_epoch.specs.Exit.{ExitFits}
 use Rattle.art_epoch.specs.Stocks.{first_in}
 use Rattle.art_epoch.specs.declared.exit.Exit.{Exit}

@@ -2,13 +2,13 @@
 use Rattle.std.proofs.Common.{◌≡◌, ◌+◌, ◌<◌, ℕ, List, refl, subst, subst₂, sym}
 use Rattle.std.proofs.lemmas.Option.{same_Some}
 use Rattle.std.specs.Prelude.{None, Some}
-use Rattle.art_machine.proofs.Words.{is_word, word_row}
-use Rattle.art_machine.specs.Acting.{Answers}
-use Rattle.art_machine.specs.declared.actions.Answer.TheVariants.{Word}
+use Rattle.art_step.proofs.Words.{is_word, word_row}
+use Rattle.art_step.specs.Acting.{Answers}
+use Rattle.art_step.specs.declared.actions.Answer.TheVariants.{Word}
 use Rattle.art_epoch.specs.Limbo.{IsLimbo, places_of}
 use Rattle.art_epoch.specs.Reclaiming.{Retires}
-use Rattle.art_machine.specs.declared.actions.Action.{Action}
-use Rattle.art_machine.specs.declared.actions.Action.TheVariants.{ReadEpoch}
+use Rattle.art_step.specs.declared.actions.Action.{Action}
+use Rattle.art_step.specs.declared.actions.Action.TheVariants.{ReadEpoch}
 use Rattle.art_epoch.specs.declared.limbo.Place.{Place}
 use Rattle.art_epoch.specs.Exit.{ExitFits, asks, gives, stage_given, steps_left}
 use Rattle.art_epoch.specs.Stocks.{count_in, first_in}

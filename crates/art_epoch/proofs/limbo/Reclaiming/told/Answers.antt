@@ -5,7 +5,7 @@ use Rattle.art_epoch.specs.Reclaiming.{Fits, stage_after, steps_left}
 use Rattle.art_epoch.specs.declared.limbo.Place.{Place}
 use Rattle.art_epoch.specs.declared.limbo.ReclaimStage.{ReclaimStage}
 use Rattle.art_epoch.proofs.Reclaimed.{may_go, reclaim_hears, reclaim_stage, reclaim_told, steps_fewer}
-use Rattle.art_machine.specs.Acting.{word_in}
+use Rattle.art_step.specs.Acting.{word_in}
 use Rattle.art_epoch.proofs.limbo.Reclaiming.told.Goals as goal
 
 pub let_go-requires : goal.let_go-requires

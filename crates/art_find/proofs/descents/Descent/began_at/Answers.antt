@@ -2,8 +2,8 @@ use Rattle.std.proofs.Common.{◌∙◌, refl, sym, subst}
 use Rattle.std.specs.Prelude.{Ok}
 use Rattle.art_cell.specs.declared.cells.Cell.TheVariants as cell
 use Rattle.art_find.specs.Descents.{StageFits}
-use Rattle.art_machine.specs.declared.actions.Answer.TheVariants.{Begun}
-use Rattle.art_machine.specs.declared.actions.Action.TheVariants.{Begin}
+use Rattle.art_step.specs.declared.actions.Answer.TheVariants.{Begun}
+use Rattle.art_step.specs.declared.actions.Action.TheVariants.{Begin}
 use Rattle.art_find.specs.declared.descents.Stage.{Stage}
 use Rattle.art_find.specs.declared.descents.Stage.TheVariants.{Start, Below}
 use Rattle.art_find.proofs.Stages.{anchor_fits, at_stage, both_fits}

@@ -1,11 +1,11 @@
 use Rattle.std.proofs.Common.{◌≡◌, ℕ, List, Option, Some, sym, subst}
 use Rattle.std.specs.Prelude.{Result, Err}
 use Rattle.art_find.specs.Asking.{WantsCheck}
-use Rattle.art_machine.specs.Acting.{Answers, telling}
+use Rattle.art_step.specs.Acting.{Answers, telling}
 use Rattle.art_find.specs.Descents.{IsReading, StageFits, answer_at, asks}
-use Rattle.art_machine.specs.declared.actions.Answer.TheVariants.{Checked}
-use Rattle.art_machine.specs.declared.actions.Action.{Action}
-use Rattle.art_machine.specs.declared.actions.Action.TheVariants.{Begin, Read, ReadLeaf, Check, Settle, Upgrade, Claim, Write, WriteLeaf, Commit, Release, ClearBit, GiveBack, Free, ReadEpoch, StorePin, RaiseEpoch, ReadPin}
+use Rattle.art_step.specs.declared.actions.Answer.TheVariants.{Checked}
+use Rattle.art_step.specs.declared.actions.Action.{Action}
+use Rattle.art_step.specs.declared.actions.Action.TheVariants.{Begin, Read, ReadLeaf, Check, Settle, Upgrade, Claim, Write, WriteLeaf, Commit, Release, ClearBit, GiveBack, Free, ReadEpoch, StorePin, RaiseEpoch, ReadPin}
 use Rattle.art_find.specs.declared.descents.Stage.{Stage}
 use Rattle.art_find.proofs.Stages.{checked_again, reads_on}
 use Rattle.art_step.specs.declared.deeds.Deed.{Deed}

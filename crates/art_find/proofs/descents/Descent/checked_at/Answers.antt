@@ -1,8 +1,8 @@
 use Rattle.std.proofs.Common.{refl, sym, ap, ◌∙◌, subst}
 use Rattle.std.specs.Prelude.{Ok}
 use Rattle.art_find.specs.Descents.{StageFits}
-use Rattle.art_machine.specs.declared.actions.Answer.TheVariants.{Checked}
-use Rattle.art_machine.specs.declared.actions.Action.TheVariants.{Check, Settle}
+use Rattle.art_step.specs.declared.actions.Answer.TheVariants.{Checked}
+use Rattle.art_step.specs.declared.actions.Action.TheVariants.{Check, Settle}
 use Rattle.art_find.specs.declared.descents.Stage.{Stage}
 use Rattle.art_find.specs.declared.descents.Stage.TheVariants.{Child, Both, Decided, Ended}
 use Rattle.art_find.proofs.Stages.{at_stage, ended_fits, header_fits, link_fits}

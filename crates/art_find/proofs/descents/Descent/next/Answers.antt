@@ -3,7 +3,7 @@ use Rattle.std.specs.Prelude.{IfSome}
 use Rattle.art_find.proofs.Allowed.{allowed}
 use Rattle.art_find.specs.Asking.{MayLook}
 use Rattle.art_find.specs.Descents.{answer_at, asks}
-use Rattle.art_machine.specs.declared.actions.Action.TheVariants.{ReadLeaf}
+use Rattle.art_step.specs.declared.actions.Action.TheVariants.{ReadLeaf}
 use Rattle.art_find.specs.declared.descents.Stage.{Stage}
 use Rattle.art_step.specs.Shows.{HasValue}
 use Rattle.art_find.proofs.descents.Descent.next.Goals as goal

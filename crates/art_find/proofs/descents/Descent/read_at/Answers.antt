@@ -1,8 +1,8 @@
 use Rattle.std.proofs.Common.{◌≡◌, ◌+◌, ◌<◌, ◌∙◌, ap, refl, sym, subst}
 use Rattle.art_cell.specs.declared.cells.Cell.TheVariants as cell
 use Rattle.art_find.specs.Descents.{most_steps, stands_on}
-use Rattle.art_machine.specs.declared.actions.Answer.TheVariants.{Word as word_told}
-use Rattle.art_machine.specs.declared.actions.Action.TheVariants.{Read, ReadLeaf}
+use Rattle.art_step.specs.declared.actions.Answer.TheVariants.{Word as word_told}
+use Rattle.art_step.specs.declared.actions.Action.TheVariants.{Read, ReadLeaf}
 use Rattle.art_find.specs.declared.descents.Descent.{Descent}
 use Rattle.art_find.specs.declared.descents.Stage.{Stage}
 use Rattle.art_find.specs.declared.descents.Stage.TheVariants.{Anchor, Header, Prefix, Keys, Slot, Value, Length, Bytes}

@@ -1,7 +1,7 @@
 use Rattle.std.proofs.Common.{subst}
-use Rattle.art_machine.specs.Acting.{Answers, telling}
+use Rattle.art_step.specs.Acting.{Answers, telling}
 use Rattle.art_find.specs.Descents.{answer_at}
-use Rattle.art_machine.specs.declared.actions.Answer.{Answer}
+use Rattle.art_step.specs.declared.actions.Answer.{Answer}
 use Rattle.art_find.proofs.descents.Descent.told.Goals as goal
 
 pub returns-in-Word-clause-fits : goal.returns-in-Word-clause-fits

@@ -4,8 +4,8 @@ use Rattle.art_find.proofs.Passing.{arrives, came_then, heard_on}
 use Rattle.art_find.proofs.Stages.{header_fits}
 use Rattle.art_find.specs.Nodes.{finding_at, moment}
 use Rattle.art_find.specs.declared.descents.Stage.TheVariants.{Both, Header}
-use Rattle.art_machine.specs.declared.actions.Action.TheVariants.{Check}
-use Rattle.art_machine.specs.declared.actions.Answer.TheVariants.{Checked}
+use Rattle.art_step.specs.declared.actions.Action.TheVariants.{Check}
+use Rattle.art_step.specs.declared.actions.Answer.TheVariants.{Checked}
 use Rattle.art_step.specs.Steps.Check as check
 use Rattle.art_step.specs.declared.faults.Changed.{Changed}
 use Rattle.art_find.proofs.findings.Finding.check_above.Goals as goal

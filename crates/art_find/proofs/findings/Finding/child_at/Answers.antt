@@ -4,8 +4,8 @@ use Rattle.art_find.proofs.Passing.{came_then, heard_on}
 use Rattle.art_find.proofs.Stages.{node_noted, node_on, node_still, node_word, slot_fits}
 use Rattle.art_find.specs.Nodes.{finding_at, moment}
 use Rattle.art_find.specs.declared.descents.Stage.TheVariants.{Child, Slot}
-use Rattle.art_machine.specs.declared.actions.Action.TheVariants.{Read}
-use Rattle.art_machine.specs.declared.actions.Answer.TheVariants.{Word as word_told}
+use Rattle.art_step.specs.declared.actions.Action.TheVariants.{Read}
+use Rattle.art_step.specs.declared.actions.Answer.TheVariants.{Word as word_told}
 use Rattle.art_find.proofs.findings.Finding.child_at.Goals as goal
 
 pub returns-in_default-clause-goes : goal.returns-in_default-clause-goes

@@ -5,9 +5,9 @@ use Rattle.art_find.proofs.Passing.{came_now, came_then, found_on, heard_on}
 use Rattle.art_find.proofs.Stages.{bytes_next, leaf_on, leaf_still, leaf_word}
 use Rattle.art_find.specs.Nodes.{finding_at, moment}
 use Rattle.art_find.specs.declared.descents.Stage.TheVariants.{Bytes}
-use Rattle.art_machine.specs.Acting.{IsAllowed}
-use Rattle.art_machine.specs.declared.actions.Action.TheVariants.{ReadLeaf}
-use Rattle.art_machine.specs.declared.actions.Answer.TheVariants.{Word as word_told}
+use Rattle.art_step.specs.Acting.{IsAllowed}
+use Rattle.art_step.specs.declared.actions.Action.TheVariants.{ReadLeaf}
+use Rattle.art_step.specs.declared.actions.Answer.TheVariants.{Word as word_told}
 use Rattle.art_step.specs.Steps.Read as read
 use Rattle.art_find.proofs.findings.Finding.compare_key.Goals as goal
 

@@ -2,9 +2,9 @@ use Rattle.std.proofs.Common.{◌∙◌, Option, true, false, Some, refl, sym, a
 use Rattle.std.specs.Prelude.{Result, Ok, Err}
 use Rattle.art_find.specs.Asking.{WantsVersion}
 use Rattle.art_find.specs.Descents.{asks, ended_at}
-use Rattle.art_machine.specs.declared.actions.Answer.TheVariants.{Begun}
-use Rattle.art_machine.specs.declared.actions.Action.{Action}
-use Rattle.art_machine.specs.declared.actions.Action.TheVariants.{Begin}
+use Rattle.art_step.specs.declared.actions.Answer.TheVariants.{Begun}
+use Rattle.art_step.specs.declared.actions.Action.{Action}
+use Rattle.art_step.specs.declared.actions.Action.TheVariants.{Begin}
 use Rattle.art_find.specs.declared.descents.Descent.{Descent}
 use Rattle.art_find.specs.declared.descents.Stage.{Stage}
 use Rattle.art_cell.specs.declared.cells.Cell.TheVariants as cell

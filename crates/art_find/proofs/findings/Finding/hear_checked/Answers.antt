@@ -1,8 +1,8 @@
 use Rattle.std.proofs.Common.{◌∙◌, Option, sym, ap, subst}
 use Rattle.art_find.specs.Descents.{answer_at, asks}
-use Rattle.art_machine.specs.declared.actions.Answer.TheVariants.{Checked}
-use Rattle.art_machine.specs.declared.actions.Action.{Action}
-use Rattle.art_machine.specs.declared.actions.Action.TheVariants.{Check}
+use Rattle.art_step.specs.declared.actions.Answer.TheVariants.{Checked}
+use Rattle.art_step.specs.declared.actions.Action.{Action}
+use Rattle.art_step.specs.declared.actions.Action.TheVariants.{Check}
 use Rattle.art_find.specs.declared.descents.Stage.{Stage}
 use Rattle.art_find.proofs.Hearing.{CameTo, heard, looked_on, told_going}
 use Rattle.art_find.specs.Driven.{get_done}

@@ -1,8 +1,8 @@
 use Rattle.std.proofs.Common.{◌∙◌, Option, true, refl, sym, ap, subst}
 use Rattle.art_find.specs.Descents.{asks}
-use Rattle.art_machine.specs.declared.actions.Answer.TheVariants.{Word}
-use Rattle.art_machine.specs.declared.actions.Action.{Action}
-use Rattle.art_machine.specs.declared.actions.Action.TheVariants.{Read}
+use Rattle.art_step.specs.declared.actions.Answer.TheVariants.{Word}
+use Rattle.art_step.specs.declared.actions.Action.{Action}
+use Rattle.art_step.specs.declared.actions.Action.TheVariants.{Read}
 use Rattle.art_find.specs.declared.descents.Stage.{Stage}
 use Rattle.art_find.proofs.Hearing.{heard, looked_on, word_came}
 use Rattle.art_find.specs.Findings.{IsHeard}

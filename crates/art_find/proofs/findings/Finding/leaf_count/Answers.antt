@@ -7,8 +7,8 @@ use Rattle.art_find.specs.Compares.{at_first}
 use Rattle.art_find.specs.Nodes.{finding_at, moment}
 use Rattle.art_find.specs.declared.descents.LeafSeen.{LeafSeen}
 use Rattle.art_find.specs.declared.descents.Stage.TheVariants.{Bytes, Length}
-use Rattle.art_machine.specs.declared.actions.Action.TheVariants.{ReadLeaf}
-use Rattle.art_machine.specs.declared.actions.Answer.TheVariants.{Word as word_told}
+use Rattle.art_step.specs.declared.actions.Action.TheVariants.{ReadLeaf}
+use Rattle.art_step.specs.declared.actions.Answer.TheVariants.{Word as word_told}
 use Rattle.art_find.proofs.findings.Finding.leaf_count.Goals as goal
 
 pub read_leaf_word-bytes-requires : goal.read_leaf_word-bytes-requires

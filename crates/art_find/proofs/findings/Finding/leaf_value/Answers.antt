@@ -4,8 +4,8 @@ use Rattle.art_find.proofs.Passing.{came_then, heard_on}
 use Rattle.art_find.proofs.Stages.{leaf_on, leaf_still, leaf_word}
 use Rattle.art_find.specs.Nodes.{finding_at, moment}
 use Rattle.art_find.specs.declared.descents.Stage.TheVariants.{Length, Value}
-use Rattle.art_machine.specs.declared.actions.Action.TheVariants.{ReadLeaf}
-use Rattle.art_machine.specs.declared.actions.Answer.TheVariants.{Word as word_told}
+use Rattle.art_step.specs.declared.actions.Action.TheVariants.{ReadLeaf}
+use Rattle.art_step.specs.declared.actions.Answer.TheVariants.{Word as word_told}
 use Rattle.art_find.proofs.findings.Finding.leaf_value.Goals as goal
 
 pub read_leaf_word-requires : goal.read_leaf_word-requires

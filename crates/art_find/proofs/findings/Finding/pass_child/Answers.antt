@@ -6,8 +6,8 @@ use Rattle.art_find.proofs.Stages.{link_fits}
 use Rattle.art_find.specs.Descents.{stage_below}
 use Rattle.art_find.specs.Nodes.{finding_at, moment}
 use Rattle.art_find.specs.declared.descents.Stage.TheVariants.{Child}
-use Rattle.art_machine.specs.declared.actions.Action.TheVariants.{Check}
-use Rattle.art_machine.specs.declared.actions.Answer.TheVariants.{Checked}
+use Rattle.art_step.specs.declared.actions.Action.TheVariants.{Check}
+use Rattle.art_step.specs.declared.actions.Answer.TheVariants.{Checked}
 use Rattle.art_step.specs.Steps.Check as check
 use Rattle.art_step.specs.declared.faults.Changed.{Changed}
 use Rattle.art_find.proofs.findings.Finding.pass_child.Goals as goal

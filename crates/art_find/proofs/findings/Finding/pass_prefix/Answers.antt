@@ -9,8 +9,8 @@ use Rattle.art_find.specs.declared.descents.Stage.{Stage}
 use Rattle.art_find.specs.declared.descents.Stage.TheVariants.{Prefix}
 use Rattle.art_find.specs.declared.findings.Finding.{Finding}
 use Rattle.art_find.specs.declared.nodes.NodeSearch.{NodeSearch}
-use Rattle.art_machine.specs.Acting.{IsAllowed}
-use Rattle.art_machine.specs.declared.actions.Action.TheVariants.{Read}
+use Rattle.art_step.specs.Acting.{IsAllowed}
+use Rattle.art_step.specs.declared.actions.Action.TheVariants.{Read}
 use Rattle.art_node.specs.declared.searches.Sought.{Sought}
 use Rattle.art_node.specs.declared.searches.Sought.TheVariants as sought
 use Rattle.art_step.specs.declared.views.Sizes.{Sizes}

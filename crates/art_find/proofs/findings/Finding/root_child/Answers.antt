@@ -4,8 +4,8 @@ use Rattle.art_find.proofs.Passing.{came_then, heard_on}
 use Rattle.art_find.proofs.Stages.{node_noted, node_word, reads_on, root_fits}
 use Rattle.art_find.specs.Nodes.{finding_at, moment}
 use Rattle.art_find.specs.declared.descents.Stage.TheVariants.{Anchor, Child}
-use Rattle.art_machine.specs.declared.actions.Action.TheVariants.{Read}
-use Rattle.art_machine.specs.declared.actions.Answer.TheVariants.{Word as word_told}
+use Rattle.art_step.specs.declared.actions.Action.TheVariants.{Read}
+use Rattle.art_step.specs.declared.actions.Answer.TheVariants.{Word as word_told}
 use Rattle.art_step.proofs.Shows.{read_rest, read_stamp}
 use Rattle.art_step.specs.declared.views.Fact.TheVariants.{Word}
 use Rattle.art_find.proofs.findings.Finding.root_child.Goals as goal

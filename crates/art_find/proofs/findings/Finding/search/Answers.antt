@@ -10,8 +10,8 @@ use Rattle.art_find.specs.Nodes.{Came, finding_at, moment}
 use Rattle.art_find.specs.Ways.{HasHeader, IsPastPrefix, count_in}
 use Rattle.art_find.specs.declared.descents.NodeSeen.{NodeSeen}
 use Rattle.art_find.specs.declared.descents.Stage.TheVariants.{Header}
-use Rattle.art_machine.specs.declared.actions.Action.TheVariants.{Read}
-use Rattle.art_machine.specs.declared.actions.Answer.TheVariants.{Word as word_told}
+use Rattle.art_step.specs.declared.actions.Action.TheVariants.{Read}
+use Rattle.art_step.specs.declared.actions.Answer.TheVariants.{Word as word_told}
 use Rattle.art_node.specs.Searches.{IsHeader}
 use Rattle.art_path.specs.Compared.{AreSame}
 use Rattle.art_path.proofs.Comparing.{same_none}

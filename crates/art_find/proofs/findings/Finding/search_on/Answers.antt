@@ -9,9 +9,9 @@ use Rattle.art_find.specs.Nodes.{Came, FitsAt, finding_at, moment}
 use Rattle.art_find.specs.ReadSets.{node_of}
 use Rattle.art_find.specs.declared.descents.Stage.{Stage}
 use Rattle.art_find.specs.declared.descents.Stage.TheVariants.{Keys}
-use Rattle.art_machine.specs.Acting.{IsAllowed}
-use Rattle.art_machine.specs.declared.actions.Action.TheVariants.{Read}
-use Rattle.art_machine.specs.declared.actions.Answer.TheVariants.{Word as word_told}
+use Rattle.art_step.specs.Acting.{IsAllowed}
+use Rattle.art_step.specs.declared.actions.Action.TheVariants.{Read}
+use Rattle.art_step.specs.declared.actions.Answer.TheVariants.{Word as word_told}
 use Rattle.art_node.specs.Searches.{IsNextWord}
 use Rattle.art_node.specs.declared.searches.Sought.{Sought}
 use Rattle.art_step.specs.Steps.Read as read

@@ -6,8 +6,8 @@ use Rattle.art_find.proofs.Passing.{arrives, came_then, heard_on}
 use Rattle.art_find.proofs.Stages.{anchor_fits}
 use Rattle.art_find.specs.Nodes.{finding_at, moment}
 use Rattle.art_find.specs.declared.descents.Stage.TheVariants.{Anchor, Start}
-use Rattle.art_machine.specs.declared.actions.Action.TheVariants.{Begin}
-use Rattle.art_machine.specs.declared.actions.Answer.TheVariants.{Begun}
+use Rattle.art_step.specs.declared.actions.Action.TheVariants.{Begin}
+use Rattle.art_step.specs.declared.actions.Answer.TheVariants.{Begun}
 use Rattle.art_step.specs.Steps.Begin as begin
 use Rattle.art_step.specs.declared.faults.Locked.{Locked}
 use Rattle.art_step.specs.declared.views.Stamp.{Stamp}

@@ -2,7 +2,7 @@ use Rattle.std.proofs.Common.{◌≡◌, Option, sym, ◌∙◌, subst}
 use Rattle.std.specs.Prelude.{IfSome}
 use Rattle.art_find.specs.Asking.{MayLook}
 use Rattle.art_find.specs.Descents.{Fits, answer_at, asks, stands_on}
-use Rattle.art_machine.specs.declared.actions.Action.{Action}
+use Rattle.art_step.specs.declared.actions.Action.{Action}
 use Rattle.art_find.specs.declared.descents.Descent.{Descent}
 use Rattle.art_find.specs.Findings.{Keeps, PlaceFits}
 use Rattle.art_find.proofs.Looks.{asks_place}

@@ -1,8 +1,8 @@
 use Rattle.std.proofs.Common.{◌∙◌, refl, sym, subst}
 use Rattle.std.specs.Prelude.{Ok}
 use Rattle.art_cell.specs.declared.cells.Cell.TheVariants as cell
-use Rattle.art_machine.specs.declared.actions.Answer.TheVariants.{Begun}
-use Rattle.art_machine.specs.declared.actions.Action.TheVariants.{Begin}
+use Rattle.art_step.specs.declared.actions.Answer.TheVariants.{Begun}
+use Rattle.art_step.specs.declared.actions.Action.TheVariants.{Begin}
 use Rattle.art_look.specs.Looks.{StageFits}
 use Rattle.art_look.specs.declared.looks.LookStage.{LookStage}
 use Rattle.art_look.specs.declared.looks.LookStage.TheVariants.{Start, Below}

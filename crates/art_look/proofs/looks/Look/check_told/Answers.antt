@@ -1,7 +1,7 @@
 use Rattle.std.proofs.Common.{subst}
 use Rattle.std.specs.Prelude.{Result}
-use Rattle.art_machine.specs.Acting.{Answers, telling}
-use Rattle.art_machine.specs.declared.actions.Answer.TheVariants.{Checked}
+use Rattle.art_step.specs.Acting.{Answers, telling}
+use Rattle.art_step.specs.declared.actions.Answer.TheVariants.{Checked}
 use Rattle.art_look.specs.Looks.{deed_at}
 use Rattle.art_step.specs.declared.faults.Changed.{Changed}
 use Rattle.art_look.proofs.looks.Look.check_told.Goals as goal

@@ -1,7 +1,7 @@
 use Rattle.std.proofs.Common.{refl, sym, ◌∙◌, subst}
 use Rattle.std.specs.Prelude.{Ok}
-use Rattle.art_machine.specs.declared.actions.Answer.TheVariants.{Checked}
-use Rattle.art_machine.specs.declared.actions.Action.TheVariants.{Check, Settle}
+use Rattle.art_step.specs.declared.actions.Answer.TheVariants.{Checked}
+use Rattle.art_step.specs.declared.actions.Action.TheVariants.{Check, Settle}
 use Rattle.art_look.specs.Looks.{StageFits}
 use Rattle.art_look.specs.declared.looks.LookStage.{LookStage}
 use Rattle.art_look.specs.declared.looks.LookStage.TheVariants.{Child, Both, Decided}

@@ -1,7 +1,7 @@
 use Rattle.std.proofs.Common.{ℕ, ◌+◌, sym, subst}
 use Rattle.std.specs.Prelude.{IfSome}
 use Rattle.art_find.specs.Asking.{MayLook}
-use Rattle.art_machine.specs.declared.actions.Action.TheVariants.{ReadLeaf}
+use Rattle.art_step.specs.declared.actions.Action.TheVariants.{ReadLeaf}
 use Rattle.art_look.specs.Looks.{Settles, asks}
 use Rattle.art_look.specs.declared.looks.LookStage.{LookStage}
 use Rattle.art_look.proofs.Allowed.{allowed}

@@ -1,7 +1,7 @@
 use Rattle.std.proofs.Common.{◌+◌, ◌∙◌, refl}
 use Rattle.art_cell.specs.declared.cells.Cell.TheVariants as cell
-use Rattle.art_machine.specs.declared.actions.Answer.TheVariants.{Word as word_told}
-use Rattle.art_machine.specs.declared.actions.Action.TheVariants.{Read, ReadLeaf}
+use Rattle.art_step.specs.declared.actions.Answer.TheVariants.{Word as word_told}
+use Rattle.art_step.specs.declared.actions.Action.TheVariants.{Read, ReadLeaf}
 use Rattle.art_find.proofs.Stages.{leaf_on, leaf_still, leaf_word, node_noted, node_on, node_still, node_word, reads_on}
 use Rattle.art_look.specs.declared.looks.LookStage.TheVariants.{Anchor, Header, Prefix, Keys, Slot, Value, Length, Bytes}
 use Rattle.art_look.proofs.Stages.{at_stage, entered_header}

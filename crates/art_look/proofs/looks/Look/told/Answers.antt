@@ -1,6 +1,6 @@
 use Rattle.std.proofs.Common.{subst}
-use Rattle.art_machine.specs.Acting.{Answers, telling}
-use Rattle.art_machine.specs.declared.actions.Answer.{Answer}
+use Rattle.art_step.specs.Acting.{Answers, telling}
+use Rattle.art_step.specs.declared.actions.Answer.{Answer}
 use Rattle.art_look.specs.Looks.{deed_at}
 use Rattle.art_look.proofs.looks.Look.told.Goals as goal
 

@@ -1,5 +1,5 @@
 use Rattle.std.proofs.Common.{refl, arith}
-use Rattle.art_machine.specs.declared.actions.Action.TheVariants.{ReadEpoch}
+use Rattle.art_step.specs.declared.actions.Action.TheVariants.{ReadEpoch}
 use Rattle.art_look.proofs.seeks.Seek.new.Goals as goal
 
 pub returns-clause-fits : goal.returns-clause-fits

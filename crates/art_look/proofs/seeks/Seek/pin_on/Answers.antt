@@ -1,8 +1,8 @@
 use Rattle.std.proofs.Common.{◌≡◌, ◌+◌, ◌≤◌, ◌<◌, ℕ, List, sym, ap, ◌∙◌, subst, arith}
 use Rattle.art_epoch.proofs.Pinned.{may_store}
-use Rattle.art_machine.proofs.Counting.{pinning_counts}
+use Rattle.art_step.proofs.Counting.{pinning_counts}
 use Rattle.art_epoch.specs.Pins as pins
-use Rattle.art_machine.specs.declared.actions.Action.TheVariants.{ReadEpoch, StorePin}
+use Rattle.art_step.specs.declared.actions.Action.TheVariants.{ReadEpoch, StorePin}
 use Rattle.art_epoch.specs.declared.enter.Pinning.{Pinning as PinningOf}
 use Rattle.art_key.specs.declared.bounds.Bound.{Bound as KeyBound}
 use Rattle.art_look.specs.declared.path_buffers.PathBuffer.{PathBuffer as PathBufferOf}

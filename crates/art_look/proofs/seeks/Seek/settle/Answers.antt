@@ -1,10 +1,10 @@
 use Rattle.std.proofs.Common.{◌≡◌, ◌+◌, ◌≤◌, ◌<◌, ◌∙◌, Some, ap, inl, sym, subst, arith}
 use Rattle.art_find.specs.Asking.{MayLook}
-use Rattle.art_machine.proofs.Counting.{look_counts}
-use Rattle.art_machine.specs.Acting.{Answers, telling}
-use Rattle.art_machine.specs.declared.actions.Action.TheVariants.{Settle}
-use Rattle.art_machine.specs.declared.actions.Answer.{Answer}
-use Rattle.art_machine.specs.declared.actions.Answer.TheVariants.{Checked}
+use Rattle.art_step.proofs.Counting.{look_counts}
+use Rattle.art_step.specs.Acting.{Answers, telling}
+use Rattle.art_step.specs.declared.actions.Action.TheVariants.{Settle}
+use Rattle.art_step.specs.declared.actions.Answer.{Answer}
+use Rattle.art_step.specs.declared.actions.Answer.TheVariants.{Checked}
 use Rattle.art_look.proofs.Counted.{goes_at, walks_on}
 use Rattle.art_look.proofs.Settlings.{settling_asks, settling_may}
 use Rattle.art_look.specs.Seeks.{busy_at, left_at, steps_left}

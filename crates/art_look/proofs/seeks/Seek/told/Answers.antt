@@ -1,7 +1,7 @@
 use Rattle.std.proofs.Common.{◌∙◌, sym, ap, subst}
 use Rattle.std.specs.Prelude.{None}
-use Rattle.art_machine.proofs.AnswerKinds.{answers_plain}
-use Rattle.art_machine.specs.Acting.{telling}
+use Rattle.art_step.proofs.AnswerKinds.{answers_plain}
+use Rattle.art_step.specs.Acting.{telling}
 use Rattle.art_look.proofs.Parts.{pin_step}
 use Rattle.art_look.proofs.seeks.Seek.told.Goals as goal
 use Rattle.art_look.specs.Seeks.{StageFits, asks_at}

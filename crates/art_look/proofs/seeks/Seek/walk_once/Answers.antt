@@ -1,10 +1,10 @@
 use Rattle.std.proofs.Common.{◌+◌, ◌≤◌, ◌<◌, ◌∙◌, inl, sym, subst, arith}
 use Rattle.std.specs.Prelude.{IfSome, Option}
-use Rattle.art_machine.proofs.Counting.{look_counts}
+use Rattle.art_step.proofs.Counting.{look_counts}
 use Rattle.art_look.proofs.Counted.{goes_at}
 use Rattle.art_look.proofs.Parts.{walk_looks}
 use Rattle.art_find.specs.Asking.{MayLook}
-use Rattle.art_machine.specs.declared.actions.Action.{Action}
+use Rattle.art_step.specs.declared.actions.Action.{Action}
 use Rattle.art_look.specs.Seeks.{busy_at, left_at, steps_left}
 use Rattle.art_look.specs.Walks.{Settles, deed_at}
 use Rattle.art_look.specs.declared.seeks.SeekStage.{SeekStage}

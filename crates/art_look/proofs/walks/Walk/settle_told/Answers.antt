@@ -1,7 +1,7 @@
 use Rattle.std.proofs.Common.{◌∙◌, subst}
-use Rattle.art_machine.specs.Acting.{Answers, telling}
-use Rattle.art_machine.specs.declared.actions.Action.TheVariants.{Settle}
-use Rattle.art_machine.specs.declared.actions.Answer.TheVariants.{Checked}
+use Rattle.art_step.specs.Acting.{Answers, telling}
+use Rattle.art_step.specs.declared.actions.Action.TheVariants.{Settle}
+use Rattle.art_step.specs.declared.actions.Answer.TheVariants.{Checked}
 use Rattle.art_look.proofs.Settlings.{settling_asks}
 use Rattle.art_look.proofs.Walking.{range_on}
 use Rattle.art_look.proofs.walks.Walk.settle_told.Goals as goal

@@ -1,5 +1,5 @@
 use Rattle.std.proofs.Common.{◌≡◌, ◌∙◌, Some, subst}
-use Rattle.art_machine.specs.Acting.{Answers, telling}
+use Rattle.art_step.specs.Acting.{Answers, telling}
 use Rattle.art_find.specs.Driven.{get_done}
 use Rattle.art_look.proofs.Walking.{key_on, range_on}
 use Rattle.art_look.proofs.walks.Walk.told.Goals as goal

@@ -1,6 +1,6 @@
 use Rattle.std.proofs.Common.{ℕ, IfSome, subst}
-use Rattle.art_call.specs.Calls.{HasCalled, IsCalling, Wish, restarts_in}
-use Rattle.art_call.specs.declared.callers.Caller.{Caller}
+use Rattle.art_change.specs.Calls.{HasCalled, IsCalling, Wish, restarts_in}
+use Rattle.art_change.specs.declared.callers.Caller.{Caller}
 use Rattle.art_step.specs.declared.views.Sizes.{Sizes}
 use Rattle.art_step.specs.declared.views.View.{View}
 use Rattle.art_runs.proofs.ops.Op.outcome.Goals as goal

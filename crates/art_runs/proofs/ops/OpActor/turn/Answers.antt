@@ -1,11 +1,11 @@
 use Rattle.std.proofs.Common.{◌≡◌, ◌∙◌, ℕ, Option, Some, None, IfSome, inr, ap, subst, sym}
 use Rattle.std.specs.Prelude.{IfNone}
-use Rattle.art_call.specs.AsAsked.{GoesAsAsked}
-use Rattle.art_call.specs.Calls.{FindsOverlap, IsCalling, StaysApart, Wish}
-use Rattle.art_call.specs.Made.{MakesStep}
-use Rattle.art_call.specs.declared.callers.Caller.{Caller}
-use Rattle.art_call.specs.declared.driver.Made.{Made}
-use Rattle.art_call.specs.declared.outcomes.Outcome.{Outcome}
+use Rattle.art_change.specs.AsAsked.{GoesAsAsked}
+use Rattle.art_change.specs.Calls.{FindsOverlap, IsCalling, StaysApart, Wish}
+use Rattle.art_change.specs.Made.{MakesStep}
+use Rattle.art_change.specs.declared.callers.Caller.{Caller}
+use Rattle.art_change.specs.declared.driver.Made.{Made}
+use Rattle.art_change.specs.declared.outcomes.Outcome.{Outcome}
 use Rattle.art_runs.specs.Ops.{AsksLast, EndsAsCalled, Goes, MakesLast, caller_in, last_in}
 use Rattle.art_runs.specs.declared.ops.Op.{Op}
 use Rattle.art_step.specs.WordRows.{view_at}

@@ -2,8 +2,8 @@ use Rattle.std.proofs.Common.{◌≡◌, ◌∙◌, false, true, Some, None, sym
 use Rattle.std.specs.Option.{is_some}
 use Rattle.std.specs.Prelude.{Option}
 use Rattle.std.specs.Box.{with_value}
-use Rattle.art_call.specs.declared.callers.Caller.{Caller}
-use Rattle.art_call.specs.Calls.{HoldsOrTold}
+use Rattle.art_change.specs.declared.callers.Caller.{Caller}
+use Rattle.art_change.specs.Calls.{HoldsOrTold}
 use Rattle.art_table.proofs.GivenUp.{given_way, idle_free, nothing_made, refused_none, was_free, why_not}
 use Rattle.art_table.proofs.attempts.Attempt.abandon.Goals as goal
 use Rattle.art_table.specs.Attempts.{IsGivenUp}

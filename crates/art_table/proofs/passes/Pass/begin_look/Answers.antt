@@ -1,5 +1,5 @@
 use Rattle.std.proofs.Common.{ap, refl, sym}
-use Rattle.art_call.specs.Calls as calls
+use Rattle.art_change.specs.Calls as calls
 use Rattle.art_key.specs.declared.bounds.Bound.{Bound}
 use Rattle.art_table.proofs.Begun.{begun}
 use Rattle.art_table.proofs.passes.Pass.begin_look.Goals as goal

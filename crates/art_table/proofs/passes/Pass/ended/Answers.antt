@@ -1,7 +1,7 @@
 use Rattle.std.proofs.Common.{◌≡◌, ◌∙◌, ap, subst, sym}
 use Rattle.std.specs.Prelude.{Result}
-use Rattle.art_call.specs.Calls.{HasCalled, IsCalling, StaysApart, restarts_in}
-use Rattle.art_call.specs.declared.callers.Caller.{Caller}
+use Rattle.art_change.specs.Calls.{HasCalled, IsCalling, StaysApart, restarts_in}
+use Rattle.art_change.specs.declared.callers.Caller.{Caller}
 use Rattle.art_table.proofs.Ended.{has_ended_here}
 use Rattle.art_table.proofs.passes.Pass.ended.Goals as goal
 use Rattle.art_table.specs.Calls.{HasEnded}

@@ -1,6 +1,6 @@
 use Rattle.std.proofs.Common.{sym, subst, ap, ◌∙◌}
 use Rattle.std.specs.Prelude.{Result}
-use Rattle.art_call.specs.Calls.{restarts_in}
+use Rattle.art_change.specs.Calls.{restarts_in}
 use Rattle.art_shared.specs.Stepper.{schema_of}
 use Rattle.art_typed.proofs.Keys.{keys_apart}
 use Rattle.art_table.proofs.Stepped.{ended, lent_apart, lent_calling}

@@ -1,5 +1,0 @@
-use Rattle.std.proofs.Common.{rules}
-use Rattle.art_call.proofs.callers.Caller.begin_get.Goals as goal
-
-pub returns-clause-calling : goal.returns-clause-calling
-returns-clause-calling c = search rules

@@ -1,5 +1,0 @@
-use Rattle.std.proofs.Common.{rules}
-use Rattle.art_call.proofs.callers.Caller.new.Goals as goal
-
-pub returns : goal.returns
-returns c = search rules

@@ -1,4 +1,0 @@
-pub mod AnswerKinds
-pub mod Counting
-pub mod Silence
-pub mod Words

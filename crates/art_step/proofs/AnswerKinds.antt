@@ -1,0 +1,276 @@
+-- Which actions have an answer of which kind; and what needs no effects is answered alike, whatever they are.
+use Rattle.std.proofs.Common.{ℕ}
+use Rattle.std.specs.Prelude.{Option, Some, None, Result, ⊤}
+use Rattle.art_step.specs.Acting.{Answers, FindsWord, IsAllowed, IsBegin, IsCheck, IsPlain}
+use Rattle.art_step.specs.declared.actions.Action.{Action}
+use Rattle.art_step.specs.declared.actions.Action.TheVariants.{Begin, Read, ReadLeaf, Check, Settle, Upgrade, Claim, Write, WriteLeaf, Commit, Release, ClearBit, GiveBack, Free, ReadEpoch, StorePin, RaiseEpoch, ReadPin}
+use Rattle.art_step.specs.declared.actions.Answer.{Answer}
+use Rattle.art_step.specs.declared.actions.Answer.TheVariants.{Begun, Word, Checked, Upgraded, Done}
+use Rattle.art_step.specs.declared.actions.Effects.{Effects}
+use Rattle.art_step.specs.declared.faults.Changed.{Changed}
+use Rattle.art_step.specs.declared.faults.Locked.{Locked}
+use Rattle.art_step.specs.declared.views.Sizes.{Sizes}
+use Rattle.art_step.specs.declared.views.Stamp.{Stamp}
+use Rattle.art_step.specs.declared.views.View.{View}
+
+pub is_begin : (z : Sizes) (o : Option Effects) (a : Action) (r : Result Stamp Locked) (v w : View) → Answers z o a (Begun r) v w → IsBegin a
+is_begin z o (Begin c) r v w row = tt
+is_begin z o (Read x i) r v w row = absurd row
+is_begin z o (ReadLeaf x l i) r v w row = absurd row
+is_begin z o (Check x) r v w row = absurd row
+is_begin z None (Settle x) r v w row = absurd row
+is_begin z (Some e) (Settle x) r v w row = absurd row
+is_begin z o (Upgrade x) r v w row = absurd row
+is_begin z o (Claim n) r v w row = absurd row
+is_begin z o (Write c i word) r v w row = absurd row
+is_begin z o (WriteLeaf l i word) r v w row = absurd row
+is_begin z None (Commit c b) r v w row = absurd row
+is_begin z (Some e) (Commit c b) r v w row = absurd row
+is_begin z o (Release c b) r v w row = absurd row
+is_begin z o (ClearBit p i b) r v w row = absurd row
+is_begin z o (GiveBack d) r v w row = absurd row
+is_begin z o (Free d) r v w row = absurd row
+is_begin z o ReadEpoch r v w row = absurd row
+is_begin z o (StorePin word) r v w row = absurd row
+is_begin z o RaiseEpoch r v w row = absurd row
+is_begin z o (ReadPin q) r v w row = absurd row
+
+pub finds_word : (z : Sizes) (o : Option Effects) (a : Action) (y : ℕ) (v w : View) → Answers z o a (Word y) v w → FindsWord a
+finds_word z o (Begin c) y v w row = absurd row
+finds_word z o (Read x i) y v w row = tt
+finds_word z o (ReadLeaf x l i) y v w row = tt
+finds_word z o (Check x) y v w row = absurd row
+finds_word z None (Settle x) y v w row = absurd row
+finds_word z (Some e) (Settle x) y v w row = absurd row
+finds_word z o (Upgrade x) y v w row = absurd row
+finds_word z o (Claim n) y v w row = absurd row
+finds_word z o (Write c i word) y v w row = absurd row
+finds_word z o (WriteLeaf l i word) y v w row = absurd row
+finds_word z None (Commit c b) y v w row = absurd row
+finds_word z (Some e) (Commit c b) y v w row = absurd row
+finds_word z o (Release c b) y v w row = absurd row
+finds_word z o (ClearBit p i b) y v w row = tt
+finds_word z o (GiveBack d) y v w row = absurd row
+finds_word z o (Free d) y v w row = absurd row
+finds_word z o ReadEpoch y v w row = tt
+finds_word z o (StorePin word) y v w row = absurd row
+finds_word z o RaiseEpoch y v w row = tt
+finds_word z o (ReadPin q) y v w row = tt
+
+pub is_check : (z : Sizes) (o : Option Effects) (a : Action) (r : Result ⊤ Changed) (v w : View) → Answers z o a (Checked r) v w → IsCheck a
+is_check z o (Begin c) r v w row = absurd row
+is_check z o (Read x i) r v w row = absurd row
+is_check z o (ReadLeaf x l i) r v w row = absurd row
+is_check z o (Check x) r v w row = tt
+is_check z None (Settle x) r v w row = absurd row
+is_check z (Some e) (Settle x) r v w row = tt
+is_check z o (Upgrade x) r v w row = absurd row
+is_check z o (Claim n) r v w row = absurd row
+is_check z o (Write c i word) r v w row = absurd row
+is_check z o (WriteLeaf l i word) r v w row = absurd row
+is_check z None (Commit c b) r v w row = absurd row
+is_check z (Some e) (Commit c b) r v w row = absurd row
+is_check z o (Release c b) r v w row = absurd row
+is_check z o (ClearBit p i b) r v w row = absurd row
+is_check z o (GiveBack d) r v w row = absurd row
+is_check z o (Free d) r v w row = absurd row
+is_check z o ReadEpoch r v w row = absurd row
+is_check z o (StorePin word) r v w row = absurd row
+is_check z o RaiseEpoch r v w row = absurd row
+is_check z o (ReadPin q) r v w row = absurd row
+
+pub answers_any : (z : Sizes) (o : Option Effects) (a : Action) (r : Answer) (v w : View) → Answers z None a r v w → Answers z o a r v w
+answers_any z o (Begin c) (Begun r) v w row = row
+answers_any z o (Begin c) (Word y) v w row = absurd row
+answers_any z o (Begin c) (Checked r) v w row = absurd row
+answers_any z o (Begin c) (Upgraded r) v w row = absurd row
+answers_any z o (Begin c) Done v w row = absurd row
+answers_any z o (Read x i) (Begun r) v w row = absurd row
+answers_any z o (Read x i) (Word y) v w row = row
+answers_any z o (Read x i) (Checked r) v w row = absurd row
+answers_any z o (Read x i) (Upgraded r) v w row = absurd row
+answers_any z o (Read x i) Done v w row = absurd row
+answers_any z o (ReadLeaf x l i) (Begun r) v w row = absurd row
+answers_any z o (ReadLeaf x l i) (Word y) v w row = row
+answers_any z o (ReadLeaf x l i) (Checked r) v w row = absurd row
+answers_any z o (ReadLeaf x l i) (Upgraded r) v w row = absurd row
+answers_any z o (ReadLeaf x l i) Done v w row = absurd row
+answers_any z o (Check x) (Begun r) v w row = absurd row
+answers_any z o (Check x) (Word y) v w row = absurd row
+answers_any z o (Check x) (Checked r) v w row = row
+answers_any z o (Check x) (Upgraded r) v w row = absurd row
+answers_any z o (Check x) Done v w row = absurd row
+answers_any z o (Settle x) (Begun r) v w row = absurd row
+answers_any z o (Settle x) (Word y) v w row = absurd row
+answers_any z o (Settle x) (Checked r) v w row = absurd row
+answers_any z o (Settle x) (Upgraded r) v w row = absurd row
+answers_any z o (Settle x) Done v w row = absurd row
+answers_any z o (Upgrade x) (Begun r) v w row = absurd row
+answers_any z o (Upgrade x) (Word y) v w row = absurd row
+answers_any z o (Upgrade x) (Checked r) v w row = absurd row
+answers_any z o (Upgrade x) (Upgraded r) v w row = row
+answers_any z o (Upgrade x) Done v w row = absurd row
+answers_any z o (Claim n) (Begun r) v w row = absurd row
+answers_any z o (Claim n) (Word y) v w row = absurd row
+answers_any z o (Claim n) (Checked r) v w row = absurd row
+answers_any z o (Claim n) (Upgraded r) v w row = absurd row
+answers_any z o (Claim n) Done v w row = row
+answers_any z o (Write c i word) (Begun r) v w row = absurd row
+answers_any z o (Write c i word) (Word y) v w row = absurd row
+answers_any z o (Write c i word) (Checked r) v w row = absurd row
+answers_any z o (Write c i word) (Upgraded r) v w row = absurd row
+answers_any z o (Write c i word) Done v w row = row
+answers_any z o (WriteLeaf l i word) (Begun r) v w row = absurd row
+answers_any z o (WriteLeaf l i word) (Word y) v w row = absurd row
+answers_any z o (WriteLeaf l i word) (Checked r) v w row = absurd row
+answers_any z o (WriteLeaf l i word) (Upgraded r) v w row = absurd row
+answers_any z o (WriteLeaf l i word) Done v w row = row
+answers_any z o (Commit c b) (Begun r) v w row = absurd row
+answers_any z o (Commit c b) (Word y) v w row = absurd row
+answers_any z o (Commit c b) (Checked r) v w row = absurd row
+answers_any z o (Commit c b) (Upgraded r) v w row = absurd row
+answers_any z o (Commit c b) Done v w row = absurd row
+answers_any z o (Release c b) (Begun r) v w row = absurd row
+answers_any z o (Release c b) (Word y) v w row = absurd row
+answers_any z o (Release c b) (Checked r) v w row = absurd row
+answers_any z o (Release c b) (Upgraded r) v w row = absurd row
+answers_any z o (Release c b) Done v w row = row
+answers_any z o (ClearBit p i b) (Begun r) v w row = absurd row
+answers_any z o (ClearBit p i b) (Word y) v w row = row
+answers_any z o (ClearBit p i b) (Checked r) v w row = absurd row
+answers_any z o (ClearBit p i b) (Upgraded r) v w row = absurd row
+answers_any z o (ClearBit p i b) Done v w row = absurd row
+answers_any z o (GiveBack d) (Begun r) v w row = absurd row
+answers_any z o (GiveBack d) (Word y) v w row = absurd row
+answers_any z o (GiveBack d) (Checked r) v w row = absurd row
+answers_any z o (GiveBack d) (Upgraded r) v w row = absurd row
+answers_any z o (GiveBack d) Done v w row = row
+answers_any z o (Free d) (Begun r) v w row = absurd row
+answers_any z o (Free d) (Word y) v w row = absurd row
+answers_any z o (Free d) (Checked r) v w row = absurd row
+answers_any z o (Free d) (Upgraded r) v w row = absurd row
+answers_any z o (Free d) Done v w row = row
+answers_any z o ReadEpoch (Begun r) v w row = absurd row
+answers_any z o ReadEpoch (Word y) v w row = row
+answers_any z o ReadEpoch (Checked r) v w row = absurd row
+answers_any z o ReadEpoch (Upgraded r) v w row = absurd row
+answers_any z o ReadEpoch Done v w row = absurd row
+answers_any z o (StorePin word) (Begun r) v w row = absurd row
+answers_any z o (StorePin word) (Word y) v w row = absurd row
+answers_any z o (StorePin word) (Checked r) v w row = absurd row
+answers_any z o (StorePin word) (Upgraded r) v w row = absurd row
+answers_any z o (StorePin word) Done v w row = row
+answers_any z o RaiseEpoch (Begun r) v w row = absurd row
+answers_any z o RaiseEpoch (Word y) v w row = row
+answers_any z o RaiseEpoch (Checked r) v w row = absurd row
+answers_any z o RaiseEpoch (Upgraded r) v w row = absurd row
+answers_any z o RaiseEpoch Done v w row = absurd row
+answers_any z o (ReadPin q) (Begun r) v w row = absurd row
+answers_any z o (ReadPin q) (Word y) v w row = row
+answers_any z o (ReadPin q) (Checked r) v w row = absurd row
+answers_any z o (ReadPin q) (Upgraded r) v w row = absurd row
+answers_any z o (ReadPin q) Done v w row = absurd row
+
+pub allowed_any : (z : Sizes) (o : Option Effects) (v : View) (a : Action) → IsAllowed z None v a → IsAllowed z o v a
+allowed_any z o v (Begin c) may = may
+allowed_any z o v (Read x i) may = may
+allowed_any z o v (ReadLeaf x l i) may = may
+allowed_any z o v (Check x) may = may
+allowed_any z o v (Settle x) may = absurd may
+allowed_any z o v (Upgrade x) may = may
+allowed_any z o v (Claim n) may = may
+allowed_any z o v (Write c i word) may = may
+allowed_any z o v (WriteLeaf l i word) may = may
+allowed_any z o v (Commit c b) may = absurd may
+allowed_any z o v (Release c b) may = may
+allowed_any z o v (ClearBit p i b) may = may
+allowed_any z o v (GiveBack d) may = may
+allowed_any z o v (Free d) may = may
+allowed_any z o v ReadEpoch may = may
+allowed_any z o v (StorePin word) may = may
+allowed_any z o v RaiseEpoch may = may
+allowed_any z o v (ReadPin q) may = may
+
+pub answers_plain : (z : Sizes) (o p : Option Effects) (a : Action) (r : Answer) (v w : View) → IsPlain a → Answers z o a r v w → Answers z p a r v w
+answers_plain z o o' (Begin c) (Begun r) v w plain row = row
+answers_plain z o o' (Begin c) (Word y) v w plain row = absurd row
+answers_plain z o o' (Begin c) (Checked r) v w plain row = absurd row
+answers_plain z o o' (Begin c) (Upgraded r) v w plain row = absurd row
+answers_plain z o o' (Begin c) Done v w plain row = absurd row
+answers_plain z o o' (Read x i) (Begun r) v w plain row = absurd row
+answers_plain z o o' (Read x i) (Word y) v w plain row = row
+answers_plain z o o' (Read x i) (Checked r) v w plain row = absurd row
+answers_plain z o o' (Read x i) (Upgraded r) v w plain row = absurd row
+answers_plain z o o' (Read x i) Done v w plain row = absurd row
+answers_plain z o o' (ReadLeaf x l i) (Begun r) v w plain row = absurd row
+answers_plain z o o' (ReadLeaf x l i) (Word y) v w plain row = row
+answers_plain z o o' (ReadLeaf x l i) (Checked r) v w plain row = absurd row
+answers_plain z o o' (ReadLeaf x l i) (Upgraded r) v w plain row = absurd row
+answers_plain z o o' (ReadLeaf x l i) Done v w plain row = absurd row
+answers_plain z o o' (Check x) (Begun r) v w plain row = absurd row
+answers_plain z o o' (Check x) (Word y) v w plain row = absurd row
+answers_plain z o o' (Check x) (Checked r) v w plain row = row
+answers_plain z o o' (Check x) (Upgraded r) v w plain row = absurd row
+answers_plain z o o' (Check x) Done v w plain row = absurd row
+answers_plain z o o' (Settle x) r v w plain row = absurd plain
+answers_plain z o o' (Upgrade x) (Begun r) v w plain row = absurd row
+answers_plain z o o' (Upgrade x) (Word y) v w plain row = absurd row
+answers_plain z o o' (Upgrade x) (Checked r) v w plain row = absurd row
+answers_plain z o o' (Upgrade x) (Upgraded r) v w plain row = row
+answers_plain z o o' (Upgrade x) Done v w plain row = absurd row
+answers_plain z o o' (Claim n) (Begun r) v w plain row = absurd row
+answers_plain z o o' (Claim n) (Word y) v w plain row = absurd row
+answers_plain z o o' (Claim n) (Checked r) v w plain row = absurd row
+answers_plain z o o' (Claim n) (Upgraded r) v w plain row = absurd row
+answers_plain z o o' (Claim n) Done v w plain row = row
+answers_plain z o o' (Write c i word) (Begun r) v w plain row = absurd row
+answers_plain z o o' (Write c i word) (Word y) v w plain row = absurd row
+answers_plain z o o' (Write c i word) (Checked r) v w plain row = absurd row
+answers_plain z o o' (Write c i word) (Upgraded r) v w plain row = absurd row
+answers_plain z o o' (Write c i word) Done v w plain row = row
+answers_plain z o o' (WriteLeaf l i word) (Begun r) v w plain row = absurd row
+answers_plain z o o' (WriteLeaf l i word) (Word y) v w plain row = absurd row
+answers_plain z o o' (WriteLeaf l i word) (Checked r) v w plain row = absurd row
+answers_plain z o o' (WriteLeaf l i word) (Upgraded r) v w plain row = absurd row
+answers_plain z o o' (WriteLeaf l i word) Done v w plain row = row
+answers_plain z o o' (Commit c b) r v w plain row = absurd plain
+answers_plain z o o' (Release c b) (Begun r) v w plain row = absurd row
+answers_plain z o o' (Release c b) (Word y) v w plain row = absurd row
+answers_plain z o o' (Release c b) (Checked r) v w plain row = absurd row
+answers_plain z o o' (Release c b) (Upgraded r) v w plain row = absurd row
+answers_plain z o o' (Release c b) Done v w plain row = row
+answers_plain z o o' (ClearBit p i b) (Begun r) v w plain row = absurd row
+answers_plain z o o' (ClearBit p i b) (Word y) v w plain row = row
+answers_plain z o o' (ClearBit p i b) (Checked r) v w plain row = absurd row
+answers_plain z o o' (ClearBit p i b) (Upgraded r) v w plain row = absurd row
+answers_plain z o o' (ClearBit p i b) Done v w plain row = absurd row
+answers_plain z o o' (GiveBack d) (Begun r) v w plain row = absurd row
+answers_plain z o o' (GiveBack d) (Word y) v w plain row = absurd row
+answers_plain z o o' (GiveBack d) (Checked r) v w plain row = absurd row
+answers_plain z o o' (GiveBack d) (Upgraded r) v w plain row = absurd row
+answers_plain z o o' (GiveBack d) Done v w plain row = row
+answers_plain z o o' (Free d) (Begun r) v w plain row = absurd row
+answers_plain z o o' (Free d) (Word y) v w plain row = absurd row
+answers_plain z o o' (Free d) (Checked r) v w plain row = absurd row
+answers_plain z o o' (Free d) (Upgraded r) v w plain row = absurd row
+answers_plain z o o' (Free d) Done v w plain row = row
+answers_plain z o o' ReadEpoch (Begun r) v w plain row = absurd row
+answers_plain z o o' ReadEpoch (Word y) v w plain row = row
+answers_plain z o o' ReadEpoch (Checked r) v w plain row = absurd row
+answers_plain z o o' ReadEpoch (Upgraded r) v w plain row = absurd row
+answers_plain z o o' ReadEpoch Done v w plain row = absurd row
+answers_plain z o o' (StorePin word) (Begun r) v w plain row = absurd row
+answers_plain z o o' (StorePin word) (Word y) v w plain row = absurd row
+answers_plain z o o' (StorePin word) (Checked r) v w plain row = absurd row
+answers_plain z o o' (StorePin word) (Upgraded r) v w plain row = absurd row
+answers_plain z o o' (StorePin word) Done v w plain row = row
+answers_plain z o o' RaiseEpoch (Begun r) v w plain row = absurd row
+answers_plain z o o' RaiseEpoch (Word y) v w plain row = row
+answers_plain z o o' RaiseEpoch (Checked r) v w plain row = absurd row
+answers_plain z o o' RaiseEpoch (Upgraded r) v w plain row = absurd row
+answers_plain z o o' RaiseEpoch Done v w plain row = absurd row
+answers_plain z o o' (ReadPin q) (Begun r) v w plain row = absurd row
+answers_plain z o o' (ReadPin q) (Word y) v w plain row = row
+answers_plain z o o' (ReadPin q) (Checked r) v w plain row = absurd row
+answers_plain z o o' (ReadPin q) (Upgraded r) v w plain row = absurd row
+answers_plain z o o' (ReadPin q) Done v w plain row = absurd row
